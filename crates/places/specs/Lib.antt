@@ -1,0 +1,3 @@
+-- What the contracts of `places` cite.
+pub mod Sets
+pub mod PlaceSets
