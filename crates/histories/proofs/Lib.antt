@@ -2,3 +2,4 @@
 -- records of one moment, `Demand` and `Single` about a list of calls, `Cases` is the table; `Closure` is for the others.
 pub mod Closure
 pub mod Exact
+pub mod Accepts
