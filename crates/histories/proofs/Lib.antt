@@ -3,3 +3,5 @@
 pub mod Closure
 pub mod Exact
 pub mod Accepts
+pub mod Checks
+pub mod Demand
