@@ -5,3 +5,5 @@ pub mod Exact
 pub mod Accepts
 pub mod Checks
 pub mod Demand
+pub mod Single
+pub mod Cases
