@@ -1,5 +1,5 @@
 -- The test for 11 is exact: it passes exactly if some history fits the accepted records with the new one. Assumes nothing.
-use mathlib.Core.Path.{_≡_, refl, sym, ap, _∙_}
+use mathlib.Core.Path.{_≡_, refl}
 use mathlib.Core.Bool.{Bool, true, false, not, cond, _&&_, _||_, or-false}
 use mathlib.Core.Logic.{_⊎_, inl, inr, _↔_}
 use Prim.Native.Nat.{ℕ, _<_}
@@ -14,7 +14,7 @@ use Rattle.histories.specs.declared.Kind.the-variants.{Full, Short}
 use Rattle.histories.specs.Histories.{Row, History, Before, heard, through, Accepted, lay, Fits}
 use Rattle.histories.specs.Rule.{recorded, reach, before, agrees, accepts}
 use Rattle.histories.proofs.Closure.{before-trans, before-mono, before-closed, reach-sound, reach-complete}
-use Rattle.histories.proofs.Exact.{recorded-returned, recorded-fits-if, recorded-sub, recorded-sup, recorded-fits}
+use Rattle.histories.proofs.Exact.{recorded-returned, recorded-fits-if, recorded-sub, recorded-fits}
 
 -- ---- the recorded rows with the new record
 

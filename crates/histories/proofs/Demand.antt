@@ -1,7 +1,7 @@
 -- Demand 3 over decoded records: each call of a list has the outcome that the records accepted before it dictate. Assumes nothing.
 use mathlib.Core.Path.{_≡_, refl}
 use mathlib.Core.Bool.{Bool, true, false, cond, _&&_}
-use mathlib.Core.Logic.{_⊎_, inl, inr, _↔_}
+use mathlib.Core.Logic.{inl, inr, _↔_}
 use mathlib.Core.List.{List, [], _∷_}
 use Prim.Native.Nat.{ℕ, _<_, _*_}
 use lib.Dec.{leb, ltb}
@@ -12,7 +12,7 @@ use Rattle.places.proofs.Tests.{same-elim, same-intro}
 use Rattle.histories.specs.declared.Kind.{Kind}
 use Rattle.histories.specs.Histories.{Row, History, Before, heard, through, Accepted, none, lay, Fits, Disagree}
 use Rattle.histories.specs.Rule.{Answer, is-last, not-last, is-open, answer, recorded, second, accepts}
-use Rattle.histories.specs.Calls.{Record, Call, offer, faulty, ask, show, other, Outcome, taken, repeated, refused, says, shown, Dictates, faulted, repeats, differs, takes, none-fits, asked-off, asked-last, asked-not, asked-open, showed-off, showed-decided, showed-short, showed, otherwise, Whole, end, then, offered, keeping, showing, outcome, after, run}
+use Rattle.histories.specs.Calls.{Call, offer, faulty, ask, show, other, taken, repeated, refused, says, shown, Dictates, faulted, repeats, differs, takes, none-fits, asked-off, asked-last, asked-not, asked-open, showed-off, showed-decided, showed-short, showed, otherwise, Whole, end, then, offered, keeping, showing, outcome, after, run}
 use Rattle.histories.proofs.Exact.{exact}
 use Rattle.histories.proofs.Accepts.{accepts-iff}
 

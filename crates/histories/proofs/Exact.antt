@@ -1,6 +1,6 @@
 -- The rule is exact: what it answers for a place is what the histories that fit say of it. Assumes nothing.
 use mathlib.Core.Path.{_≡_, refl, sym, ap, _∙_}
-use mathlib.Core.Bool.{Bool, true, false, not, cond, _&&_, _||_}
+use mathlib.Core.Bool.{Bool, true, false, not, cond, _&&_}
 use mathlib.Core.Logic.{_⊎_, inl, inr, _↔_}
 use Prim.Native.Nat.{ℕ, _<_}
 use native.Mathlib.Omega.{arith}
@@ -12,7 +12,7 @@ use Rattle.places.proofs.Tests.{any-elim, any-intro, any-none, none-any, lowest
 use Rattle.histories.specs.declared.Kind.{Kind}
 use Rattle.histories.specs.declared.Kind.the-variants.{Full, Short}
 use Rattle.histories.specs.Histories.{Row, History, Before, heard, through, IsHistory, Accepted, Fits, Last, LastInAll, LastInNone, Disagree, Decided}
-use Rattle.histories.specs.Rule.{recorded, mourned, reach, before, ruledOut, blockers, Answer, is-last, not-last, is-open, answer, openAnswer, settled, unmourned, unmournedAbsent, inherited, grown, second}
+use Rattle.histories.specs.Rule.{recorded, mourned, before, ruledOut, blockers, is-last, not-last, is-open, answer, openAnswer, settled, unmourned, unmournedAbsent, inherited, grown, second}
 use Rattle.histories.proofs.Closure.{before-trans, before-mono, before-closed, reach-sound, reach-complete}
 
 -- ---- the recorded rows

@@ -4,6 +4,7 @@ pub mod Closure
 pub mod Exact
 pub mod Accepts
 pub mod Checks
+pub mod Counts
 pub mod Demand
 pub mod Single
 pub mod Cases

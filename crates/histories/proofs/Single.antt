@@ -1,8 +1,7 @@
 -- What is dictated is one outcome and one next set of accepted records, up to which two histories are shown. Assumes nothing.
-use mathlib.Core.Path.{_≡_, refl, sym, ap₂, _∙_, subst}
-use mathlib.Core.Bool.{true, false}
+use mathlib.Core.Path.{_≡_, refl, sym, ap₂, subst}
 use mathlib.Core.Logic.{_⊎_, inl, inr}
-use mathlib.Core.List.{List, [], _∷_, map}
+use mathlib.Core.List.{List, _∷_, map}
 use Prim.Native.Nat.{ℕ, _<_, _≤_, _*_}
 use native.Mathlib.Omega.{arith}
 use Rattle.places.specs.Sets.{nothing}
@@ -109,7 +108,6 @@ left-fits {H = H} f (showed x d u v) = (H, f)
 
 single-from : {k : Kind} {n : ℕ} {A : Accepted} {H : History} → Fits k n A H → {cs : List (Call n)} {os₁ os₂ : List Outcome}
     → Whole k n A cs os₁ → Whole k n A cs os₂ → map plain os₁ ≡ map plain os₂
-unfolding map
 single-from f end end = refl
 single-from {k} {n} f (then {cs = cs} d₁ w₁) (then {os = os} d₂ w₂) =
     let s = single f d₁ d₂ in
