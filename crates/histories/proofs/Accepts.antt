@@ -1,4 +1,4 @@
--- The test for 11 is exact: it passes exactly if some history fits the accepted records with the new one. Assumes nothing.
+-- A new record passes the test for 11 just where a history fits it and the records accepted before. Assumes nothing.
 use mathlib.Core.Path.{_≡_, refl}
 use mathlib.Core.Bool.{Bool, true, false, not, cond, _&&_, _||_, or-false}
 use mathlib.Core.Logic.{_⊎_, inl, inr, _↔_}
@@ -51,7 +51,7 @@ module _ {k : Kind} {n : ℕ} {A : Accepted} {H : History} (f : Fits k n A H) (p
 -- ---- the short kind
 
 module _ {n : ℕ} {A : Accepted} {H : History} (f : Fits Short n A H) (p : ℕ) (M : Row) (on : p < n) (M-on : (q : ℕ) → M q ≡ true → q < n) where
-  -- a chain of old rows, or one that goes through p
+  -- q is before x by rows that were there, or by way of p
   abbrev Chain : ℕ → ℕ → Type 0
   Chain q x = Before (recorded A) q x ⊎ (Before (recorded (lay A p M)) q p × ((x ≡ p) ⊎ Before (recorded (lay A p M)) p x))
 
@@ -186,7 +186,7 @@ module _ {n : ℕ} {A : Accepted} {H : History} (f : Fits Full n A H) (p : ℕ) 
 
 -- ---- the theorem
 
--- for accepted records that some history fits, and a sound record of a place that has not returned
+-- the record is sound, its place has not returned, and some history fits without it
 pub accepts-iff : (k : Kind) {n : ℕ} {A : Accepted} {H : History} → Fits k n A H → (p : ℕ) (M : Row) → A .returned p ≡ false → p < n → ((q : ℕ) → M q ≡ true → q < n)
     → (accepts k n A p M ≡ true) ↔ ((G : History) × Fits k n (lay A p M) G)
 accepts-iff Full {n} {A} f p M absent on M-on =

@@ -1,4 +1,4 @@
--- The check of a history is exact: it says yes exactly if the history fits. Assumes nothing.
+-- The test of a lent history is true just where the history fits. Assumes nothing.
 use mathlib.Core.Path.{_≡_, refl, sym, _∙_}
 use mathlib.Core.Bool.{true, false, not, _&&_, _||_}
 use mathlib.Core.Logic.{_↔_}
@@ -47,7 +47,7 @@ closed-intro Full n H c =
     all-intro n (λ p. all n (holds n H p)) (λ p _. all-intro n (holds n H p) (λ m _. implies-intro (H p m) (subset n (H m) (H p)) (λ a. subset-intro n (H m) (H p) (λ q _ b. c refl p m q a b))))
 closed-intro Short n H c = refl
 
--- for accepted records that some history fits, and a history with no place off the roster
+-- some history fits, and the lent one has no place off the roster
 pub fits-iff : (k : Kind) (n : ℕ) (A : Accepted) (H₀ : History) → Fits k n A H₀ → (H : History) → ((p q : ℕ) → H p q ≡ true → (p < n) × (q < n))
     → (fitsTest k n A H ≡ true) ↔ Fits k n A H
 unfolding fitsTest
@@ -73,7 +73,7 @@ fits-iff k n A H₀ f H s = (to, from)
         two : all n free && closedRows k n H ≡ true
         two = and-left (all n free && closedRows k n H) (all n agrees) e
 
-        -- off the roster both rows are empty
+        -- where no place can stand the two rows are equal
         away : (p q : ℕ) → A .returned p ≡ true → ¬ ((p < n) × (q < n)) → H p q ≡ A .row p q
         away p q b z = off-false s p q z ∙ sym (off-false (f .history .inside) p q z) ∙ f .recorded p b q
 

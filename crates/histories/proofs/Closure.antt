@@ -18,7 +18,7 @@ pub before-mono : {G H : History} → ((p q : ℕ) → G p q ≡ true → H p q 
 before-mono s (heard {q = q} {p = p} e) = heard (s p q e)
 before-mono s (through {q = q} {m = m} e b) = through (s m q e) (before-mono s b)
 
--- a history whose rows hold the rows of their members has all that is before a place in the place's row
+-- where rows hold the rows of their members, what is before a place stands in its row
 pub before-closed : {H : History} → ((p m q : ℕ) → H p m ≡ true → H m q ≡ true → H p q ≡ true) → {q p : ℕ} → Before H q p → H p q ≡ true
 before-closed c (heard e) = e
 before-closed c (through {q = q} {m = m} {p = p} e b) = c p m q (before-closed c b) e

@@ -64,8 +64,11 @@ listed (suc n) S on = go (listed n (without n S) fewer) (S n) refl
         omega arith
 
     go : (xs : List ℕ) × Lists xs (without n S) → (b : Bool) → S n ≡ b → (xs : List ℕ) × Lists xs S
-    go (xs, l) true e = (n ∷ xs, record { once = more (λ d. clash (eqb-self n) (minus-elim (S n) (eqb n n) (l .members n .0 d) .1)) (l .once); members = λ q. (λ d. into q (List·Memᴰ·cases-cons d), λ s. out q s (ℕ-discrete q n)) })
+    go (xs, l) true e = (n ∷ xs, record { once = more new (l .once); members = λ q. (λ d. into q (List·Memᴰ·cases-cons d), λ s. out q s (ℕ-discrete q n)) })
       where
+        new : ¬ (List·Memᴰ n xs)
+        new d = clash (eqb-self n) (minus-elim (S n) (eqb n n) (l .members n .0 d) .1)
+
         into : (q : ℕ) → (q ≡ n) ⊎ List·Memᴰ q xs → S q ≡ true
         into q (inl h) = rw h e
         into q (inr d) = minus-elim (S q) (eqb q n) (l .members q .0 d) .0
@@ -83,6 +86,7 @@ unfolding unmourned unmournedCount
 unmourned-count n A xs l = count-lists n (unmourned n A) xs (λ q e. ltb-true q n (minus-elim (ltb q n) (mourned n A q) e .0)) l
 
 -- in the words of the accepted records: of the places below n, those that no returned record names
-pub unmourned-counted : {k : Kind} {n : ℕ} {A : Accepted} {H : History} → Fits k n A H → {xs : List ℕ} → Once xs → ((q : ℕ) → List·Memᴰ q xs ↔ ((q < n) × (¬ (Mourned A q)))) → length xs ≡ unmournedCount n A
+pub unmourned-counted : {k : Kind} {n : ℕ} {A : Accepted} {H : History} → Fits k n A H → {xs : List ℕ} → Once xs
+    → ((q : ℕ) → List·Memᴰ q xs ↔ ((q < n) × (¬ (Mourned A q)))) → length xs ≡ unmournedCount n A
 unmourned-counted {n = n} {A} f {xs} o m =
     unmourned-count n A xs (record { once = o; members = λ q. (λ d. unmourned-iff f q .1 (m q .0 d), λ e. m q .1 (unmourned-iff f q .0 e)) })

@@ -24,7 +24,7 @@ none-fitted k n = record { history = record { inside = λ p q e. clash e refl; a
     empty (heard e) = clash e refl
     empty (through e b) = clash e refl
 
--- one call: its outcome and the records accepted after it are dictated, and some history fits these
+-- a single call does what is dictated, and leaves records that some history fits
 pub step : {k : Kind} {n : ℕ} {A : Accepted} {H : History} → Fits k n A H → (c : Call n)
     → Dictates k n A c (outcome k n A c) (after k n A c) × ((G : History) × Fits k n (after k n A c) G)
 unfolding outcome after offered keeping showing
@@ -88,7 +88,7 @@ unfolding run
 demand-from f [] = end
 demand-from f (c ∷ cs) = let s = step f c in then (s .0) (demand-from (s .1 .1) cs)
 
--- demand 3, over decoded records: for every kind, every roster length and every list of calls from the opening on, the outcomes
--- are those that the records accepted so far dictate, one call after another
+-- demand 3, over decoded records: whatever the kind, the roster's length and the calls made since the opening, no outcome is other
+-- than what the records accepted by then dictate
 pub demand : (k : Kind) (n : ℕ) (cs : List (Call n)) → Whole k n none cs (run k n none cs)
 demand k n cs = demand-from (none-fitted k n) cs

@@ -1,4 +1,4 @@
--- The rule is exact: what it answers for a place is what the histories that fit say of it. Assumes nothing.
+-- The rule answers what the histories that fit say of a place, no more and no less. Assumes nothing.
 use mathlib.Core.Path.{_≡_, refl, sym, ap, _∙_}
 use mathlib.Core.Bool.{Bool, true, false, not, cond, _&&_}
 use mathlib.Core.Logic.{_⊎_, inl, inr, _↔_}
@@ -21,31 +21,31 @@ pub recorded-returned : (A : Accepted) (p q : ℕ) → recorded A p q ≡ true �
 unfolding recorded
 recorded-returned A p q e = and-left (A .returned p) (A .row p q) e
 
--- they fit, if they make a history
-pub recorded-fits-if : {k : Kind} {n : ℕ} {A : Accepted} → IsHistory k n (recorded A) → Fits k n A (recorded A)
-unfolding recorded
-recorded-fits-if h = record { history = h; recorded = λ p b q. rw b }
-
 module _ {k : Kind} {n : ℕ} {A : Accepted} {H : History} (f : Fits k n A H) where
-  -- they stand in every history that fits
-  pub recorded-sub : (p q : ℕ) → recorded A p q ≡ true → H p q ≡ true
-  unfolding recorded
-  recorded-sub p q e = f .recorded p (and-left (A .returned p) (A .row p q) e) q ∙ and-right (A .returned p) (A .row p q) e
-
-  -- and a returned place's row has nothing else
+  -- in a history that fits, the row of a returned place has nothing that is not recorded
   pub recorded-sup : (p q : ℕ) → A .returned p ≡ true → H p q ≡ true → recorded A p q ≡ true
   unfolding recorded
   recorded-sup p q b e = and-intro b (sym (f .recorded p b q) ∙ e)
 
-  -- if any history fits, the recorded rows with empty ones elsewhere do
-  pub recorded-fits : Fits k n A (recorded A)
-  recorded-fits =
-      recorded-fits-if
-      (record {
-        inside = λ p q e. f .history .inside p q (recorded-sub p q e);
-        acyclic = λ p b. f .history .acyclic p (before-mono recorded-sub b);
-        closed = λ e p m q a b. recorded-sup p q (recorded-returned A p m a) (f .history .closed e p m q (recorded-sub p m a) (recorded-sub m q b));
-      })
+  -- and all that is recorded is in its row
+  pub recorded-sub : (p q : ℕ) → recorded A p q ≡ true → H p q ≡ true
+  unfolding recorded
+  recorded-sub p q e = f .recorded p (and-left (A .returned p) (A .row p q) e) q ∙ and-right (A .returned p) (A .row p q) e
+
+-- the recorded rows fit, if they make a history
+pub recorded-fits-if : {k : Kind} {n : ℕ} {A : Accepted} → IsHistory k n (recorded A) → Fits k n A (recorded A)
+unfolding recorded
+recorded-fits-if h = record { history = h; recorded = λ p b q. rw b }
+
+-- which they do, where any history fits
+pub recorded-fits : {k : Kind} {n : ℕ} {A : Accepted} {H : History} → Fits k n A H → Fits k n A (recorded A)
+recorded-fits {A = A} f =
+    recorded-fits-if
+    (record {
+      inside = λ p q e. f .history .inside p q (recorded-sub f p q e);
+      acyclic = λ p b. f .history .acyclic p (before-mono (recorded-sub f) b);
+      closed = λ e p m q a b. recorded-sup f p q (recorded-returned A p m a) (f .history .closed e p m q (recorded-sub f p m a) (recorded-sub f m q b));
+    })
 
 -- ---- mourned
 
@@ -79,6 +79,22 @@ pub unmourned-absent-iff : (n : ℕ) (A : Accepted) (q : ℕ) → (unmournedAbse
 unfolding unmournedAbsent
 unmourned-absent-iff n A q = (minus-elim (unmourned n A q) (A .returned q), λ u. minus-intro (u .0) (u .1))
 
+-- ---- blockers
+
+record Blocks (k : Kind) (n : ℕ) (A : Accepted) (i b : ℕ) : Type 0 where
+  on : b < n
+  other : ¬ (b ≡ i)
+  absent : A .returned b ≡ false
+  free : ruledOut k n A i b ≡ false
+
+blocks : (k : Kind) (n : ℕ) (A : Accepted) (i b : ℕ) → blockers k n A i b ≡ true → Blocks k n A i b
+unfolding blockers
+blocks k n A i b e =
+    let free = minus-elim (difference (difference (below n) (only i)) (A .returned) b) (ruledOut k n A i b) e in
+    let absent = minus-elim (difference (below n) (only i) b) (A .returned b) (free .0) in
+    let other = minus-elim (ltb b n) (eqb b i) (absent .0) in
+    record { on = ltb-true b n (other .0); other = λ h. clash (eq-eqb b i h) (other .1); absent = absent .1; free = free .1 }
+
 -- ---- not mourned and without a blocker: last
 
 -- an absent place that is ruled out did not hear i
@@ -109,20 +125,6 @@ unblocked-last {k} {n} {A} {H} f i u a p = is-false (H p i) (λ t. go t (split (
         blocks c = minus-intro (minus-intro (minus-intro (lt-ltb p n on) other) b) c
 
 -- ---- not mourned and with a blocker: the second shown history
-
-record Blocks (k : Kind) (n : ℕ) (A : Accepted) (i b : ℕ) : Type 0 where
-  on : b < n
-  other : ¬ (b ≡ i)
-  absent : A .returned b ≡ false
-  free : ruledOut k n A i b ≡ false
-
-blocks : (k : Kind) (n : ℕ) (A : Accepted) (i b : ℕ) → blockers k n A i b ≡ true → Blocks k n A i b
-unfolding blockers
-blocks k n A i b e =
-    let free = minus-elim (difference (difference (below n) (only i)) (A .returned) b) (ruledOut k n A i b) e in
-    let absent = minus-elim (difference (below n) (only i) b) (A .returned b) (free .0) in
-    let other = minus-elim (ltb b n) (eqb b i) (absent .0) in
-    record { on = ltb-true b n (other .0); other = λ h. clash (eq-eqb b i h) (other .1); absent = absent .1; free = free .1 }
 
 -- what the row of b gets: i, and what it inherits
 abbrev New : Kind → Accepted → ℕ → ℕ → ℕ → ℕ → Type 0
@@ -157,11 +159,6 @@ grown-inherited : (k : Kind) (A : Accepted) (i b q : ℕ) → inherited k A i q 
 unfolding grown
 grown-inherited k A i b q e = rw (eqb-self b) (or-left (eqb q i) e)
 
-inherited-recorded : (k : Kind) (A : Accepted) (i q : ℕ) → inherited k A i q ≡ true → recorded A i q ≡ true
-unfolding inherited
-inherited-recorded Full A i q e = e
-inherited-recorded Short A i q e = clash e refl
-
 -- the full kind
 module _ {n : ℕ} {A : Accepted} {H : History} (f : Fits Full n A H) (i b : ℕ) (s : Blocks Full n A i b) where
   b-unheard : (p : ℕ) → recorded A p b ≡ true → ⊥
@@ -192,13 +189,19 @@ module _ {n : ℕ} {A : Accepted} {H : History} (f : Fits Full n A H) (i b : ℕ
       go (inl (pb, inr ip)) = b-unheard i (rw pb at ip)
       go (inr pp) = recorded-fits f .history .acyclic p (heard pp)
 
+-- what is inherited is recorded
+inherited-recorded : (k : Kind) (A : Accepted) (i q : ℕ) → inherited k A i q ≡ true → recorded A i q ≡ true
+unfolding inherited
+inherited-recorded Full A i q e = e
+inherited-recorded Short A i q e = clash e refl
+
 -- the short kind
 module _ {n : ℕ} {A : Accepted} {H : History} (f : Fits Short n A H) (i b : ℕ) (s : Blocks Short n A i b) where
   b-not-before : Before (recorded A) b i → ⊥
   unfolding ruledOut before
   b-not-before x = clash (reach-complete n (recorded A) (λ p q e. recorded-fits f .history .inside p q e .0) x) (s .free)
 
-  -- a chain of recorded rows, or one that goes through i and b
+  -- q is before p by recorded rows alone, or by way of i and b
   abbrev Chain : ℕ → ℕ → Type 0
   Chain q p = Before (recorded A) q p ⊎ (((q ≡ i) ⊎ Before (recorded A) q i) × ((p ≡ b) ⊎ Before (recorded A) b p))
 
@@ -251,7 +254,7 @@ grown-fits k {n} {A} {H} f i b l s =
 
 -- ---- the theorem
 
--- an answer, with what the histories that fit say
+-- which answer is given, and why
 data View (k : Kind) (n : ℕ) (A : Accepted) (i : ℕ) : Type 0 where
   sees-last : answer k n A i ≡ is-last → LastInAll k n A i → View k n A i
   sees-not : answer k n A i ≡ not-last → LastInNone k n A i → View k n A i
@@ -291,7 +294,7 @@ pub record Exact (k : Kind) (n : ℕ) (A : Accepted) (i : ℕ) : Type 0 where
   pub last-iff : (answer k n A i ≡ is-last) ↔ LastInAll k n A i
   pub not-iff : (answer k n A i ≡ not-last) ↔ LastInNone k n A i
   pub open-iff : (answer k n A i ≡ is-open) ↔ ((F : History) × (G : History) × Disagree k n A i F G)
-  -- the two shown histories are two such
+  -- and those that are shown are such a pair
   pub shown : answer k n A i ≡ is-open → Disagree k n A i (recorded A) (second k n A i)
 
 pub exact : {k : Kind} {n : ℕ} {A : Accepted} {H : History} → Fits k n A H → (i : ℕ) → i < n → Exact k n A i

@@ -1,4 +1,4 @@
--- What is dictated is one outcome and one next set of accepted records, up to which two histories are shown. Assumes nothing.
+-- No call has two outcomes dictated to it, but for which two histories are shown, nor two sets of records after it. Assumes nothing.
 use mathlib.Core.Path.{_≡_, refl, sym, ap₂, subst}
 use mathlib.Core.Logic.{_⊎_, inl, inr}
 use mathlib.Core.List.{List, _∷_, map}
@@ -12,7 +12,7 @@ use Rattle.histories.specs.Calls.{Call, Outcome, taken, repeated, decide
 use Rattle.histories.proofs.Exact.{all-none, all-open, none-open}
 use Rattle.histories.proofs.Demand.{none-fitted}
 
--- an outcome without the histories that it shows
+-- forgets which histories are shown
 pub plain : Outcome → Outcome
 plain taken = taken
 plain repeated = repeated
@@ -34,7 +34,7 @@ room : (n : ℕ) {a b : ℕ} {X : Type 0} → (a < 16 * n) ⊎ (b < 16 * n) → 
 room n (inl s) x y = absurd (omega arith)
 room n (inr s) x y = absurd (omega arith)
 
--- for accepted records that some history fits
+-- some history fits the accepted records
 pub single : {k : Kind} {n : ℕ} {A : Accepted} {H : History} → Fits k n A H → {c : Call n} {o₁ o₂ : Outcome} {B₁ B₂ : Accepted}
     → Dictates k n A c o₁ B₁ → Dictates k n A c o₂ B₂ → (plain o₁ ≡ plain o₂) × (B₁ ≡ B₂)
 unfolding plain
