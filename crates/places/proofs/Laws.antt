@@ -2,18 +2,19 @@
 -- With `Booleans`, `Tests` and `Counting` this is all that a crate above cites. Assumes nothing.
 use mathlib.Core.Path.{_≡_, refl, sym, ap, _∙_, fun-ext}
 use mathlib.Core.Bool.{Bool, true, false, not, cond, _&&_, _||_, and-true}
-use Prim.Native.Nat.{ℕ, _≤_, _<_}
+use Prim.Native.Nat.{ℕ, suc, _≤_, _<_}
 use native.Mathlib.Omega.{arith}
 use lib.Dec.{eqb, ltb}
 use borrow.Author.Tests.{ltb-true, ltb-false, lt-ltb, le-ltb, eqb-true}
-use Rattle.places.specs.Sets.{Places, only, union, with, without, difference, any, subset}
+use Rattle.places.specs.Sets.{Places, only, union, with, without, difference, nothing, any, subset, count, lowest}
 use Rattle.places.specs.PlaceSets.{has, kept, Words, packed, found}
 use Rattle.places.specs.declared.PlaceSet.{PlaceSet}
 use Rattle.places.specs.declared.Place.{Place}
 use Rattle.places.specs.declared.Found.{Found}
 use Rattle.places.specs.declared.Found.the-variants.{At, Nothing}
 use Rattle.places.proofs.Booleans.{clash, is-false, is-true, minus-elim, minus-intro}
-use Rattle.places.proofs.Tests.{any-elim, any-none, subset-elim, subset-intro}
+use Rattle.places.proofs.Tests.{any-elim, any-none, subset-elim, subset-intro, lowest-member, lowest-least}
+use Rattle.places.proofs.Counting.{count-same, count-nothing, count-without}
 use Rattle.places.proofs.Words as words
 
 -- no set has a place of 128 or more
@@ -114,3 +115,22 @@ found-none n p e = go (ltb p n) refl e
     go : (b : Bool) → ltb p n ≡ b → cond b (At (record { 0 = p })) Nothing ≡ Nothing → n ≤ p
     go true t h = let z : _≡_ {A = ℕ} 0 1 = cc in absurd (omega arith)
     go false t h = ltb-false p n t
+
+-- the lowest member, by what was found: a member with none below it; or there is none
+pub lowest-found : (n : ℕ) (S : Places) (p : Place) → found n (lowest n S) ≡ At p → (S (p .0) ≡ true) × (p .0 < n) × ((j : ℕ) → j < p .0 → S j ≡ false)
+lowest-found n S p e =
+    let h = found-at n (lowest n S) p e in
+    let l : lowest n S < n = rw (h .0) (h .1) in
+    (rw (h .0) at (lowest-member n S l), h .1, λ j less. lowest-least n S j (rw (h .0) less))
+
+pub lowest-nothing : (n : ℕ) (S : Places) → found n (lowest n S) ≡ Nothing → (k : ℕ) → k < n → S k ≡ false
+lowest-nothing n S e k l =
+    let h : n ≤ lowest n S = found-none n (lowest n S) e in
+    lowest-least n S k (omega arith)
+
+-- one member less, by the set that `without` gives
+pub without-count : (s r : PlaceSet) (p : ℕ) → has s p ≡ true → has r ≡ without p (has s) → count 128 (has s) ≡ suc (count 128 (has r))
+without-count s r p m e = rw e (count-without 128 (has s) p (has-below s p m) m)
+
+pub nothing-count : (s : PlaceSet) → ((k : ℕ) → k < 128 → has s k ≡ false) → count 128 (has s) ≡ 0
+nothing-count s h = count-same 128 (has s) nothing h ∙ count-nothing 128
