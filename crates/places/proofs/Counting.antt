@@ -2,13 +2,13 @@
 use mathlib.Core.Path.{_≡_, refl, sym, ap, ap₂, _∙_}
 use mathlib.Core.Logic.{_⊎_, inl, inr}
 use mathlib.Core.Bool.{Bool, true, false, not, cond, _&&_, _||_, or-true, or-false, and-true, and-false}
-use Prim.Native.Nat.{ℕ, zero, suc, _+_, _≤_, _<_, zero-le}
+use Prim.Native.Nat.{ℕ, zero, suc, _+_, _-_, _≤_, _<_, zero-le}
 use native.Mathlib.Nat.{le-refl, not-suc-le-zero, add-comm, add-assoc, add-zero}
 use native.Mathlib.Omega.{arith}
 use lib.Dec.{eqb}
 use borrow.Author.Tests.{ne-eqb, lt-ltb}
 use Rattle.places.specs.Sets.{Places, nothing, below, with, without, count}
-use Rattle.places.proofs.Booleans.{clash, eqb-self}
+use Rattle.places.proofs.Booleans.{clash, is-false, eqb-self}
 use Rattle.places.proofs.Tests.{last-or-below}
 
 -- a count depends on nothing but the members below n
@@ -125,3 +125,11 @@ count-more (suc n) A B h = go (count-more n A B) (A n) (B n) refl refl h
     go rest true true p q l = let r = rest (omega arith) in (r .0, omega (arith, r .1), r .2, r .3)
     go rest false true p q l = let r = rest (omega arith) in (r .0, omega (arith, r .1), r .2, r .3)
     go rest false false p q l = let r = rest (omega arith) in (r .0, omega (arith, r .1), r .2, r .3)
+
+-- a set whose members are below n counts the same up to any larger bound
+pub count-within : (n m : ℕ) (S : Places) → n ≤ m → ((k : ℕ) → S k ≡ true → k < n) → count m S ≡ count n S
+count-within n m S l h =
+    let e : n + (m - n) ≡ m = omega arith in
+    let none : count (m - n) (λ k. S (n + k)) ≡ 0 =
+    count-same (m - n) (λ k. S (n + k)) nothing (λ k i. is-false (S (n + k)) (λ t. absurd (omega (arith, h (n + k) t)))) ∙ count-nothing (m - n) in
+    ap (λ (x : ℕ). count x S) (sym e) ∙ count-add (m - n) n S ∙ ap (λ (x : ℕ). count n S + x) none ∙ add-zero (count n S)

@@ -1,0 +1,4 @@
+pub mod Views
+pub mod Walks
+pub mod Answers
+pub mod Acceptance

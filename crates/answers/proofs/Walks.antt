@@ -1,0 +1,210 @@
+-- The two walks over the returned places: each gives its row once. Assumes nothing.
+use mathlib.Core.Path.{_≡_, refl, sym, ap, _∙_, fun-ext}
+use mathlib.Core.Bool.{Bool, true, false, not, _&&_, _||_}
+use mathlib.Core.Logic.{_⊎_, inl, inr, ⊎-elim}
+use mathlib.Core.List.{List}
+use Prim.Native.Nat.{ℕ, _<_}
+use lib.Dec.{eqb}
+use borrow.Author.Tests.{eqb-true}
+use Rattle.places.specs.Sets.{Places, nothing, below, union, intersection, without, any}
+use Rattle.places.specs.PlaceSets.{has}
+use Rattle.places.specs.declared.PlaceSet.{PlaceSet}
+use Rattle.places.proofs.Booleans.{clash, is-false, both-ways, and-intro, and-left, and-right, or-cases, or-left, or-right, minus-intro}
+use Rattle.places.proofs.Tests.{any-elim, any-intro}
+use Rattle.places.proofs.Laws.{has-below}
+use Rattle.rows.specs.Rows.{rowsOf}
+use Rattle.histories.specs.Histories.{Row, Before, heard, through, Accepted}
+use Rattle.histories.specs.Rule.{recorded, mourned, before}
+use Rattle.histories.proofs.Closure.{before-trans, reach-sound, reach-complete}
+use Rattle.answers.specs.Views.{size, acceptedIn, reachFrom}
+use Rattle.answers.proofs.Views.{On, cut, cut-is, cut-on, recorded-back, recorded-absent, recorded-parts, recorded-intro}
+
+-- what holds at each turn of a walk towards the set T: `seen` holds nothing else, and the rows of all returned places that
+-- are not in `left`
+pub record Walk (A : Accepted) (T : Row) (seen left : PlaceSet) : Type 0 where
+  pub sound : (q : ℕ) → has seen q ≡ true → T q ≡ true
+  pub listed : (p : ℕ) → has left p ≡ true → A .returned p ≡ true
+  pub given : (p q : ℕ) → recorded A p q ≡ true → has left p ≡ false → has seen q ≡ true
+
+walk-starts : (A : Accepted) (T : Row) (seen left : PlaceSet) → ((q : ℕ) → has seen q ≡ true → T q ≡ true) → has left ≡ A .returned → Walk A T seen left
+walk-starts A T seen left s e = record {
+  sound = s;
+  listed = λ p h. sym (ap (λ (S : Places). S p) e) ∙ h;
+  given = λ p q r h. clash (recorded-parts A p q r .0) (sym (ap (λ (S : Places). S p) e) ∙ h);
+}
+
+-- the row of a place of `left` is taken in
+walk-goes : (A : Accepted) (T : Row) (seen left : PlaceSet) → Walk A T seen left → (p : ℕ) → ((q : ℕ) → recorded A p q ≡ true → T q ≡ true) → has left p ≡ true
+    → (row more rest : PlaceSet) → has row ≡ A .row p → has more ≡ union (has seen) (has row) → has rest ≡ without p (has left) → Walk A T more rest
+walk-goes A T seen left t p good m row more rest er eu ew = record {
+  sound = λ q e. ⊎-elim (t .sound q) (λ h. good q (recorded-intro A p q (t .listed p m) (sym (in-row q) ∙ h))) (or-cases (has seen q) (has row q) (sym (in-more q) ∙ e));
+  listed = λ k e. t .listed k (and-left (has left k) (not (eqb k p)) (sym (in-rest k) ∙ e));
+  given = gives;
+}
+  where
+    in-row : (q : ℕ) → has row q ≡ A .row p q
+    in-row q = ap (λ (S : Places). S q) er
+
+    in-more : (q : ℕ) → has more q ≡ has seen q || has row q
+    in-more q = ap (λ (S : Places). S q) eu
+
+    in-rest : (k : ℕ) → has rest k ≡ has left k && not (eqb k p)
+    in-rest k = ap (λ (S : Places). S k) ew
+
+    gives : (k q : ℕ) → recorded A k q ≡ true → has rest k ≡ false → has more q ≡ true
+    gives k q r h = go (eqb k p) refl
+      where
+        go : (b : Bool) → eqb k p ≡ b → has more q ≡ true
+        go true e = in-more q ∙ or-right (has seen q) (in-row q ∙ ap (λ (x : ℕ). A .row x q) (sym (eqb-true k p e)) ∙ recorded-parts A k q r .1)
+        go false e =
+            in-more q ∙ or-left (has row q) (t .given k q r (is-false (has left k) (λ l. clash (in-rest k ∙ minus-intro l e) h)))
+
+-- what holds at each turn of the walk from S to all that is reached from it: besides, S is seen
+pub record Reaching (n : ℕ) (A : Accepted) (S seen left : PlaceSet) : Type 0 where
+  pub walk : Walk A (reachFrom n A (has S)) seen left
+  pub begun : (q : ℕ) → has S q ≡ true → has seen q ≡ true
+
+-- ---- the mourned places
+
+module _ (n : ℕ) (A : Accepted) (on : On n A) where
+  mourned-intro : (p q : ℕ) → recorded A p q ≡ true → mourned n A q ≡ true
+  unfolding mourned
+  mourned-intro p q r = any-intro n (λ p. recorded A p q) p (on .back-on p (recorded-parts A p q r .0)) r
+
+  mourned-elim : (q : ℕ) → mourned n A q ≡ true → (p : ℕ) × (recorded A p q ≡ true)
+  unfolding mourned
+  mourned-elim q e = let r = any-elim n (λ p. recorded A p q) e in (r .0, r .2)
+
+  -- nobody is left: all that is mourned was named
+  mourned-all : (seen left : PlaceSet) → Walk A (mourned n A) seen left → ((k : ℕ) → k < 128 → has left k ≡ false) → has seen ≡ mourned n A
+  mourned-all seen left t none =
+      fun-ext (λ q. both-ways (has seen q) (mourned n A q) (t .sound q) (λ e. let r = mourned-elim q e in
+      t .given (r .0) q (r .1) (is-false (has left (r .0)) (λ l. clash l (none (r .0) (has-below left (r .0) l))))))
+
+  -- ---- what is before
+
+  rows-on : (p q : ℕ) → recorded A p q ≡ true → p < n
+  rows-on p q r = on .back-on p (recorded-parts A p q r .0)
+
+  before-sound : (p q : ℕ) → before n A p q ≡ true → Before (recorded A) q p
+  unfolding before
+  before-sound p q e = reach-sound n (recorded A) p q e
+
+  before-complete : (p q : ℕ) → Before (recorded A) q p → before n A p q ≡ true
+  unfolding before
+  before-complete p q b = reach-complete n (recorded A) rows-on b
+
+  -- what is before something is before it by a row of the roster
+  before-on : {q p : ℕ} → Before (recorded A) q p → p < n
+  before-on (heard {q = q} {p = p} e) = rows-on p q e
+  before-on (through e b) = before-on b
+
+  module _ (S : Row) where
+    pub reach-here : (q : ℕ) → S q ≡ true → reachFrom n A S q ≡ true
+    unfolding reachFrom
+    reach-here q e = or-left (any n (λ m. S m && before n A m q)) e
+
+    reach-before : (m q : ℕ) → S m ≡ true → Before (recorded A) q m → reachFrom n A S q ≡ true
+    unfolding reachFrom
+    reach-before m q e b = or-right (S q) (any-intro n (λ m. S m && before n A m q) m (before-on b) (and-intro e (before-complete m q b)))
+
+    pub reach-elim : (q : ℕ) → reachFrom n A S q ≡ true → (S q ≡ true) ⊎ ((m : ℕ) × (S m ≡ true) × Before (recorded A) q m)
+    unfolding reachFrom
+    reach-elim q e = go (or-cases (S q) (any n (λ m. S m && before n A m q)) e)
+      where
+        go : (S q ≡ true) ⊎ (any n (λ m. S m && before n A m q) ≡ true) → (S q ≡ true) ⊎ ((m : ℕ) × (S m ≡ true) × Before (recorded A) q m)
+        go (inl h) = inl h
+        go (inr h) =
+            let r = any-elim n (λ m. S m && before n A m q) h in
+            inr (r .0, and-left (S (r .0)) (before n A (r .0) q) (r .2), before-sound (r .0) q (and-right (S (r .0)) (before n A (r .0) q) (r .2)))
+
+    -- what stands in the row of one that is reached is reached
+    pub reach-next : (p q : ℕ) → reachFrom n A S p ≡ true → recorded A p q ≡ true → reachFrom n A S q ≡ true
+    reach-next p q e r = ⊎-elim (λ h. reach-before p q h (heard r)) (λ h. reach-before (h .0) q (h .1) (through r (h .2))) (reach-elim p e)
+
+    -- a set that holds S and the rows of its members holds all that is reached
+    reach-within : (T : Row) → ((q : ℕ) → S q ≡ true → T q ≡ true) → ((p q : ℕ) → T p ≡ true → recorded A p q ≡ true → T q ≡ true)
+        → (q : ℕ) → reachFrom n A S q ≡ true → T q ≡ true
+    reach-within T here next q e = ⊎-elim (here q) (λ h. along (here (h .0) (h .1)) (h .2)) (reach-elim q e)
+      where
+        along : {q m : ℕ} → T m ≡ true → Before (recorded A) q m → T q ≡ true
+        along {q} {m} t (heard r) = next m q t r
+        along t (through {q = q} {m = m} r b) = next m q (along t b) r
+
+  reaching-starts : (S left : PlaceSet) → has left ≡ A .returned → Reaching n A S S left
+  reaching-starts S left e = record { walk = walk-starts A (reachFrom n A (has S)) S left (reach-here (has S)) e; begun = λ q h. h }
+
+  module _ (S seen left : PlaceSet) (t : Reaching n A S seen left) (todo : PlaceSet) (e : has todo ≡ intersection (has seen) (has left)) where
+    todo-parts : (p : ℕ) → has todo p ≡ true → (has seen p ≡ true) × (has left p ≡ true)
+    todo-parts p h =
+        let b = sym (ap (λ (S : Places). S p) e) ∙ h in
+        (and-left (has seen p) (has left p) b, and-right (has seen p) (has left p) b)
+
+    reaching-goes : (p : ℕ) → has todo p ≡ true → (row more rest : PlaceSet) → has row ≡ A .row p → has more ≡ union (has seen) (has row) → has rest ≡ without p (has left)
+        → Reaching n A S more rest
+    reaching-goes p h row more rest er eu ew = record {
+      walk = walk-goes A (reachFrom n A (has S)) seen left (t .walk) p (λ q r. reach-next (has S) p q (t .walk .sound p (todo-parts p h .0)) r) (todo-parts p h .1) row more rest er eu ew;
+      begun = λ q b. ap (λ (S : Places). S q) eu ∙ or-left (has row q) (t .begun q b);
+    }
+
+    -- no place of `left` is seen: all that is reached was seen
+    reaching-ends : ((k : ℕ) → k < 128 → has todo k ≡ false) → has seen ≡ reachFrom n A (has S)
+    reaching-ends none =
+        fun-ext (λ q. both-ways (has seen q) (reachFrom n A (has S) q) (t .walk .sound q) (reach-within (has S) (has seen) (t .begun) next q))
+      where
+        next : (p q : ℕ) → has seen p ≡ true → recorded A p q ≡ true → has seen q ≡ true
+        next p q s r =
+            t .walk .given p q r (is-false (has left p) (λ l. clash (ap (λ (S : Places). S p) e ∙ and-intro s l) (none p (has-below seen p s))))
+
+  -- from the row of a place: what is before it
+  pub reach-row : (i : ℕ) → reachFrom n A (recorded A i) ≡ before n A i
+  reach-row i = fun-ext (λ q. both-ways (reachFrom n A (recorded A i) q) (before n A i q) (λ e. before-complete i q (to q e)) (λ e. from q (before-sound i q e)))
+    where
+      to : (q : ℕ) → reachFrom n A (recorded A i) q ≡ true → Before (recorded A) q i
+      to q e = ⊎-elim (λ h. heard h) (λ h. before-trans (h .2) (heard (h .1))) (reach-elim (recorded A i) q e)
+
+      from : (q : ℕ) → Before (recorded A) q i → reachFrom n A (recorded A i) q ≡ true
+      from q (heard r) = reach-here (recorded A i) q r
+      from q (through {m = m} r b) = reach-next (recorded A i) m q (from m b) r
+
+-- ---- as the code goes: `all` is the roster, `back` who of s is on it
+
+module _ (count : ℕ) (w : List ℕ) (all s back : PlaceSet) (ea : has all ≡ below (size count)) (eb : has back ≡ intersection (has all) (has s)) where
+  whole : cut all back w ≡ acceptedIn count (has s) w
+  whole = cut-is count w all s back ea eb
+
+  on : On (size count) (cut all back w)
+  on = cut-on count w all s back ea eb
+
+  pub recorded-row : (p : ℕ) (row : PlaceSet) → has back p ≡ true → has row ≡ intersection (has all) (rowsOf w p) → has row ≡ recorded (acceptedIn count (has s) w) p
+  recorded-row p row b e = e ∙ recorded-back (cut all back w) p b ∙ ap (λ (A : Accepted). recorded A p) whole
+
+  pub recorded-none : (p : ℕ) (row : PlaceSet) → has back p ≡ false → has row ≡ nothing → has row ≡ recorded (acceptedIn count (has s) w) p
+  recorded-none p row b e = e ∙ recorded-absent (cut all back w) p b ∙ ap (λ (A : Accepted). recorded A p) whole
+
+  pub mourned-starts : (named : PlaceSet) → has named ≡ nothing → Walk (cut all back w) (mourned (size count) (cut all back w)) named back
+  mourned-starts named e = walk-starts (cut all back w) (mourned (size count) (cut all back w)) named back (λ q h. clash h (ap (λ (S : Places). S q) e)) refl
+
+  pub mourned-goes : (named left : PlaceSet) → Walk (cut all back w) (mourned (size count) (cut all back w)) named left → (p : ℕ) → has left p ≡ true → (row more rest : PlaceSet)
+      → has row ≡ intersection (has all) (rowsOf w p) → has more ≡ union (has named) (has row) → has rest ≡ without p (has left)
+      → Walk (cut all back w) (mourned (size count) (cut all back w)) more rest
+  mourned-goes named left t p = walk-goes (cut all back w) (mourned (size count) (cut all back w)) named left t p (mourned-intro (size count) (cut all back w) on p)
+
+  pub mourned-ends : (named left : PlaceSet) → Walk (cut all back w) (mourned (size count) (cut all back w)) named left → ((k : ℕ) → k < 128 → has left k ≡ false)
+      → has named ≡ mourned (size count) (acceptedIn count (has s) w)
+  mourned-ends named left t none = mourned-all (size count) (cut all back w) on named left t none ∙ ap (mourned (size count)) whole
+
+  pub reached-starts : (S : PlaceSet) → Reaching (size count) (cut all back w) S S back
+  reached-starts S = reaching-starts (size count) (cut all back w) on S back refl
+
+  module _ (S seen left : PlaceSet) (t : Reaching (size count) (cut all back w) S seen left) (next : PlaceSet) (e : has next ≡ intersection (has seen) (has left)) where
+    pub reached-left : (p : ℕ) → has next p ≡ true → has left p ≡ true
+    reached-left p h = and-right (has seen p) (has left p) (sym (ap (λ (S : Places). S p) e) ∙ h)
+
+    pub reached-goes : (p : ℕ) → has next p ≡ true → (row more rest : PlaceSet) → has row ≡ intersection (has all) (rowsOf w p) → has more ≡ union (has seen) (has row)
+        → has rest ≡ without p (has left) → Reaching (size count) (cut all back w) S more rest
+    reached-goes = reaching-goes (size count) (cut all back w) on S seen left t next e
+
+    pub reached-ends : ((k : ℕ) → k < 128 → has next k ≡ false) → has seen ≡ reachFrom (size count) (acceptedIn count (has s) w) (has S)
+    reached-ends none =
+        reaching-ends (size count) (cut all back w) on S seen left t next e none ∙ ap (λ (A : Accepted). reachFrom (size count) A (has S)) whole

@@ -1,0 +1,79 @@
+-- `answers::settled` meets its contract. Assumes nothing.
+use mathlib.Core.Path.{sym, _∙_}
+use native.Mathlib.Omega.{arith}
+use Rattle.places.specs.PlaceSets.{has}
+use Rattle.places.proofs.Laws.{lowest-found, lowest-nothing, without-count}
+use Rattle.answers.specs.Views.{size, acceptedIn}
+use Rattle.answers.proofs.Answers.{Passed, passed-none, passed-next, settled-all, settled-open}
+use borrow.Author.Needs.{needs}
+use Rattle.answers.proofs.settled.Statement.{statement}
+use Rattle.answers.proofs.settled.Tie as tie
+
+abbrev Inv-loop : tie.InvT-loop
+Inv-loop kind rows returned count named left₀ left = Passed kind (size count) (acceptedIn count (has returned) rows) left
+
+abbrev μ-loop : tie.MeasureT-loop
+μ-loop kind rows returned count named left₀ left = Rattle.places.specs.Sets.count 128 (has left)
+
+mourned-requires : tie.Need-mourned-requires Inv-loop μ-loop
+mourned-requires c κs = search needs
+
+roster-requires : tie.Need-roster-requires Inv-loop μ-loop
+roster-requires c κs = search needs
+
+difference-requires : tie.Need-difference-requires Inv-loop μ-loop
+difference-requires c κs = search needs
+
+loop-holds : tie.Need-loop-holds Inv-loop μ-loop
+loop-holds c = passed-none _ _ _ _ _ _ (c .before .roster .ensures) (c .before .before .mourned .ensures) (c .difference .ensures)
+
+lowest-requires : tie.Need-lowest-requires Inv-loop μ-loop
+lowest-requires c κs = search needs
+
+enum-known-found : tie.Need-enum-known-found Inv-loop μ-loop
+enum-known-found c = search needs
+
+enum-told : tie.Need-enum-told Inv-loop μ-loop
+enum-told c = search needs
+
+returns : tie.Need-returns Inv-loop μ-loop
+returns c = settled-all _ _ _ _ (c .before .before .before .loop .inv) (lowest-nothing 128 _ (sym (c .before .before .lowest .ensures) ∙ c .enum-told .given .1))
+
+blocked-requires : tie.Need-blocked-requires Inv-loop μ-loop
+blocked-requires c κs = search needs
+
+returns-2 : tie.Need-returns-2 Inv-loop μ-loop
+returns-2 c =
+    let low = lowest-found 128 _ _ (sym (c .before .before .before .before .before .lowest .ensures) ∙ c .before .before .before .found .given .1) in
+    settled-open _ _ _ _ (c .before .before .before .before .before .before .loop .inv) _ (low .0) (sym (c .before .blocked .ensures) ∙ c .if1 .taken)
+
+without-requires : tie.Need-without-requires Inv-loop μ-loop
+without-requires c κs = search needs
+
+loop-less : tie.Need-loop-less Inv-loop μ-loop
+loop-less c =
+    let low = lowest-found 128 _ _ (sym (c .before .before .before .before .before .before .lowest .ensures) ∙ c .before .before .before .before .found .given .1) in
+    omega (arith, without-count _ _ _ (low .0) (c .without .ensures))
+
+loop-again : tie.Need-loop-again Inv-loop μ-loop
+loop-again c = passed-next _ _ _ _ _ (c .before .before .before .before .before .before .before .loop .inv) _ (sym (c .before .before .blocked .ensures) ∙ c .before .if1 .left) (c .without .ensures)
+
+pub settled-spec : {M : Type 1} → statement M
+settled-spec =
+    tie.close
+    (tie.spec
+    Inv-loop
+    μ-loop
+    mourned-requires
+    roster-requires
+    difference-requires
+    loop-holds
+    lowest-requires
+    enum-known-found
+    enum-told
+    returns
+    blocked-requires
+    returns-2
+    without-requires
+    loop-less
+    loop-again)

@@ -1,0 +1,333 @@
+-- A day's records, offered in any order, are taken or repeated, and what is answered then is true of the day. Assumes nothing.
+use mathlib.Core.Path.{_≡_, refl, sym, ap, _∙_, subst, fun-ext}
+use mathlib.Core.Bool.{Bool, true, false, cond}
+use mathlib.Core.Logic.{_⊎_, inl, inr, _↔_}
+use mathlib.Core.List.{List, [], _∷_, _++_, List·Memᴰ, List·Memᴰ·head, List·Memᴰ·tail}
+use Prim.Native.Nat.{ℕ, zero, suc, _+_, _^_, _<_, _≤_}
+use native.Mathlib.Omega.{arith}
+use lib.ListN.{length, getD, length-append}
+use lib.Dec.{eqb}
+use borrow.Author.Tests.{eqb-true, lt-ltb, le-leb}
+use Rattle.places.specs.Sets.{any}
+use Rattle.places.proofs.Booleans.{split, clash, is-false, or-cases, or-left, or-right, eqb-self}
+use Rattle.places.proofs.Tests.{last-or-below, any-elim, any-none}
+use Rattle.histories.specs.declared.Kind.{Kind}
+use Rattle.histories.specs.Histories.{History, IsHistory, Accepted, none, lay, Fits, Last, LastInAll, LastInNone}
+use Rattle.rosters.specs.Rosters.{IsRoster, listed}
+use Rattle.rosters.specs.declared.Listed.{Listed}
+use Rattle.rosters.specs.declared.Listed.the-variants as L
+use Rattle.rosters.proofs.Laws.{listed-sound}
+use Rattle.records.specs.declared.Writing.the-variants as W
+use Rattle.records.specs.Layout.{Parsed, got, refused, knownKind, kindOf, Stored, layout}
+use Rattle.records.specs.Records.{putAt, writtenAt}
+use Rattle.records.proofs.Layouts.{IsStored}
+use Rattle.records.proofs.Trips.{layout-lone}
+use Rattle.recovery.specs.declared.Recovery.{Recovery}
+use Rattle.recovery.specs.declared.Opening as recovery
+use Rattle.recovery.specs.declared.Opening.the-variants as R
+use Rattle.recovery.specs.declared.Opened.{Opened}
+use Rattle.recovery.specs.declared.Reply.{Reply}
+use Rattle.recovery.specs.declared.Reply.the-variants as O
+use Rattle.recovery.specs.declared.Asked.{Asked}
+use Rattle.recovery.specs.Contracts.{acceptedOf, unopened, openedAs, opened, offered}
+use Rattle.recovery.specs.Demand as D
+use Rattle.recovery.specs.Demand.{Free, Opens, offer, ask, Outcome, says, OfGroup, Dictates, faulty, foreign, repeats, differs, takes, none-fits, asked-off, asked-last, asked-not, asked-open}
+use Rattle.recovery.specs.Run.{openingSays, offerSays, askedSays, outcome}
+use Rattle.recovery.specs.Run as run
+use Rattle.recovery.proofs.Opens.{known-intro, opens, opened-free}
+use Rattle.recovery.proofs.Keeps.{fresh-accepted}
+use Rattle.recovery.proofs.Demand.{Good, good-opened, good-next, step}
+use Rattle.executions.specs.declared.Day.{Day}
+use Rattle.executions.specs.declared.Event.{Event}
+use Rattle.executions.specs.declared.Played.{Played}
+use Rattle.executions.specs.declared.Begun.{Begun}
+use Rattle.executions.specs.declared.Opening.{Opening}
+use Rattle.executions.specs.declared.Opening.the-variants as G
+use Rattle.executions.specs.Executions.{Execution}
+use Rattle.executions.specs.Contracts.{sizeOf, executionOf, starting, unbegun, begunAs, begun, dayAfter, played, recordOf, writtenOf}
+use Rattle.executions.specs.Finished.{recordBytes, Over, Given, True}
+use Rattle.executions.specs.Finished as given
+use Rattle.executions.proofs.Executed.{stops, allowed-free, afterStop, happening-stop, orderly-history}
+use Rattle.executions.proofs.Days.{after-execution}
+use Rattle.executions.proofs.Plays.{Kept, kept-starting, kept-after, faultOn, played-kept, Plays, done, next, plays-played}
+
+-- ---- opening
+
+pub begun-as : (kind : ℕ) (s : List ℕ) → Free kind s → begun kind s ≡ record { answer = G.Opened; day = starting (kindOf kind) s }
+unfolding begun begunAs
+begun-as kind s f = rw (known-intro kind (f .known), listed-sound s .1 (f .sound))
+
+pub begun-free : (kind : ℕ) (s : List ℕ) → Free kind s → begun kind s .answer ≡ G.Opened
+begun-free kind s f = ap (λ (b : Begun). b .answer) (begun-as kind s f)
+
+-- a day's answer in the words of a recovery
+pub alike : Opening → recovery.Opening
+alike G.Opened = R.Opened
+alike (G.Refused j) = R.Refused j
+
+module _ (kind : ℕ) (s : List ℕ) where
+  -- a day and a recovery are opened alike
+  pub begun-alike : alike (begun kind s .answer) ≡ opened kind s .answer
+  unfolding alike begun begunAs unbegun opened openedAs unopened
+  begun-alike = go (knownKind kind) (listed s)
+    where
+      go : (b : Bool) (l : Listed) → alike (cond b (begunAs (kindOf kind) s l) (unbegun 2) .answer) ≡ cond b (openedAs (kindOf kind) s l) (unopened 2) .answer
+      go true L.Sound = refl
+      go true (L.Refused j) = refl
+      go false l = refl
+
+  -- and refused alike, so by the same faults in the same order
+  pub begins : (j : ℕ) → (begun kind s .answer ≡ G.Refused j) ↔ (opened kind s .answer ≡ R.Refused j)
+  unfolding alike
+  begins j = (λ e. sym begun-alike ∙ ap alike e, λ e. back (begun kind s .answer) (begun-alike ∙ e))
+    where
+      back : (a : Opening) → alike a ≡ R.Refused j → a ≡ G.Refused j
+      back G.Opened e = let z : _≡_ {A = ℕ} 0 1 = cc in absurd (omega arith)
+      back (G.Refused i) e = let z : i ≡ j = cc in ap G.Refused z
+
+  pub begins-opened : (begun kind s .answer ≡ G.Opened) ↔ (opened kind s .answer ≡ R.Opened)
+  unfolding alike
+  begins-opened = (λ e. sym begun-alike ∙ ap alike e, λ e. back (begun kind s .answer) (begun-alike ∙ e))
+    where
+      back : (a : Opening) → alike a ≡ R.Opened → a ≡ G.Opened
+      back G.Opened e = refl
+      back (G.Refused i) e = let z : _≡_ {A = ℕ} 0 1 = cc in absurd (omega arith)
+
+  pub begins-as : Opens kind s (openingSays (alike (begun kind s .answer)))
+  begins-as = rw begun-alike (opens kind s)
+
+pub begun-kept : (kind : ℕ) (s : List ℕ) → Free kind s → Kept (kindOf kind) s (begun kind s .day)
+begun-kept kind s f = subst (λ (b : Begun). Kept (kindOf kind) s (b .day)) (sym (begun-as kind s f)) (kept-starting (kindOf kind) s (f .sound .few))
+
+-- ---- what is read twice
+
+read-clash : {X : Type 0} {p : Parsed Stored} {rest : List ℕ} {j : ℕ} {x : Stored} → p ≡ refused j → p ≡ got x rest → X
+read-clash e h = let z : _≡_ {A = ℕ} 0 1 = cc in absurd (omega arith)
+
+same-record : {p : Parsed Stored} {u v : List ℕ} {x y : Stored} → p ≡ got x u → p ≡ got y v → x ≡ y
+same-record e h = cc
+
+-- ---- words
+
+said : (a : Reply) → (says (offerSays a) ≡ says D.taken) ⊎ (says (offerSays a) ≡ says D.repeated) → (a ≡ O.Taken) ⊎ (a ≡ O.Repeated)
+unfolding offerSays
+said O.Taken e = inl refl
+said O.Repeated e = inr refl
+said (O.Refused j) (inl e) = let z : _≡_ {A = ℕ} 0 1 = cc in absurd (omega arith)
+said (O.Refused j) (inr e) = let z : _≡_ {A = ℕ} 0 1 = cc in absurd (omega arith)
+
+-- what asking dictates, by what is said
+dictates-last : {k : Kind} {roster : List ℕ} {A B : Accepted} {i : ℕ} {o : Outcome} → Dictates k roster A (ask i) o B → o ≡ says D.is-last → LastInAll k (length roster) A i
+dictates-last (asked-off l) e = let z : _≡_ {A = ℕ} 0 1 = cc in absurd (omega arith)
+dictates-last (asked-last l a) e = a
+dictates-last (asked-not l a) e = let z : _≡_ {A = ℕ} 0 1 = cc in absurd (omega arith)
+dictates-last (asked-open l a) e = let z : _≡_ {A = ℕ} 0 1 = cc in absurd (omega arith)
+
+dictates-not : {k : Kind} {roster : List ℕ} {A B : Accepted} {i : ℕ} {o : Outcome} → Dictates k roster A (ask i) o B → o ≡ says D.not-last → LastInNone k (length roster) A i
+dictates-not (asked-off l) e = let z : _≡_ {A = ℕ} 0 1 = cc in absurd (omega arith)
+dictates-not (asked-last l a) e = let z : _≡_ {A = ℕ} 0 1 = cc in absurd (omega arith)
+dictates-not (asked-not l a) e = a
+dictates-not (asked-open l a) e = let z : _≡_ {A = ℕ} 0 1 = cc in absurd (omega arith)
+
+-- ---- a day that was opened and played, and a recovery of its group
+
+module _ {k : Kind} {s : List ℕ} {d : Day} (sound : IsRoster s) (below : (p : ℕ) → p < length s → getD s p 0 < 2 ^ 32) (g : Kept k s d) where
+  abbrev rows : History
+  rows = executionOf d .row
+
+  is-history : IsHistory k (length s) rows
+  is-history = orderly-history (g .orderly)
+
+  -- the record of a place is one that bytes can hold
+  record-stored : (p : ℕ) → p < length s → IsStored (recordOf d p)
+  unfolding recordOf
+  record-stored p l = record {
+    roster = rw (g .sound .is-roster) sound;
+    below = rw (g .sound .is-roster) below;
+    own = rw (g .sound .is-roster) l;
+    mourned = rw (g .sound .is-roster) (λ q e. is-history .inside p q e .1);
+  }
+
+  -- and is read back from its bytes as one of the group
+  record-group : (p : ℕ) → p < length s → OfGroup k s (recordBytes d p) (recordOf d p)
+  unfolding recordBytes recordOf
+  record-group p l = record { rest = []; reads = layout-lone (recordOf d p) (record-stored p l); same-kind = g .sound .is-kind; same-roster = g .sound .is-roster }
+
+  module _ {A : Accepted} (f : Fits k (length s) A rows) (p : ℕ) where
+    -- the day's rows fit with the record of p laid on the others
+    lay-fits : Fits k (length s) (lay A p (rows p)) rows
+    lay-fits = record { history = is-history; recorded = λ r b q. go r q (eqb r p) refl (or-cases (A .returned r) (eqb r p) b) }
+      where
+        go : (r q : ℕ) (t : Bool) → eqb r p ≡ t → (A .returned r ≡ true) ⊎ (eqb r p ≡ true) → rows r q ≡ cond t (rows p) (A .row r) q
+        go r q true e b = ap (λ (x : ℕ). rows x q) (eqb-true r p e)
+        go r q false e (inl b) = f .recorded r b q
+        go r q false e (inr h) = clash h e
+
+    -- so nothing else is dictated than taken or repeated, and the rows fit what is left
+    offer-dictates : {bytes : List ℕ} → OfGroup k s bytes (recordOf d p) → {o : Outcome} {B : Accepted} → Dictates k s A (offer bytes) o B
+        → ((o ≡ says D.taken) ⊎ (o ≡ says D.repeated)) × Fits k (length s) B rows
+    unfolding recordOf
+    offer-dictates x (faulty e l m) = read-clash e (x .reads)
+    offer-dictates x (foreign e z) =
+        absurd (z (subst (λ (y : Stored). (y .kind ≡ k) × (y .roster ≡ s)) (same-record (x .reads) e) (x .same-kind, x .same-roster)))
+    offer-dictates x (repeats y b q) = (inr refl, f)
+    offer-dictates x (differs y b z) =
+        absurd (z (subst (λ (y : Stored). A .returned (y .own) ≡ true → y .mourned ≡ A .row (y .own)) (same-record (x .reads) (y .reads)) (λ b. fun-ext (f .recorded p b)) b))
+    offer-dictates x (takes y b h) = (inl refl, subst (λ (y : Stored). Fits k (length s) (lay A (y .own) (y .mourned)) rows) (same-record (x .reads) (y .reads)) lay-fits)
+    offer-dictates x (none-fits y b z) =
+        absurd (z rows (subst (λ (y : Stored). Fits k (length s) (lay A (y .own) (y .mourned)) rows) (same-record (x .reads) (y .reads)) lay-fits))
+
+  -- somebody heard one that is not last
+  heard-of : (i : ℕ) → ¬ (Last rows i) → (x : ℕ) × (rows x i ≡ true)
+  heard-of i z = go (any (length s) (λ x. rows x i)) refl
+    where
+      go : (t : Bool) → any (length s) (λ x. rows x i) ≡ t → (x : ℕ) × (rows x i ≡ true)
+      go true e = let w = any-elim (length s) (λ x. rows x i) e in (w .0, w .2)
+      go false e = absurd (z (λ p. is-false (rows p i) (λ t. clash t (any-none (length s) (λ x. rows x i) e p (is-history .inside p i t .0)))))
+
+  module _ {r : Recovery} (good : Good k s r) (f : Fits k (length s) (acceptedOf r) rows) where
+    answers-true : True d r
+    unfolding outcome askedSays
+    answers-true = record {
+      last = λ p e. dictates-last (step good (ask p)) (ap (λ (a : Asked). says (askedSays a)) e) rows f;
+      not-last = λ p e. heard-of p (dictates-not (step good (ask p)) (ap (λ (a : Asked). says (askedSays a)) e) rows f);
+    }
+
+    offer-taken : (p : ℕ) → p < length s → (offered r (recordBytes d p) .answer ≡ O.Taken) ⊎ (offered r (recordBytes d p) .answer ≡ O.Repeated)
+    unfolding outcome
+    offer-taken p l = said (offered r (recordBytes d p) .answer) (offer-dictates f p (record-group p l) (step good (offer (recordBytes d p))) .0)
+
+    offer-good : (p : ℕ) → Good k s (offered r (recordBytes d p) .recovery)
+    unfolding run.next
+    offer-good p = good-next good (offer (recordBytes d p))
+
+    offer-fits : (p : ℕ) → p < length s → Fits k (length s) (acceptedOf (offered r (recordBytes d p) .recovery)) rows
+    unfolding run.next
+    offer-fits p l = offer-dictates f p (record-group p l) (step good (offer (recordBytes d p))) .1
+
+  -- the records of any places, in any order
+  all-given : (ps : List ℕ) → ((p : ℕ) → List·Memᴰ p ps → p < length s) → (r : Recovery) → Good k s r → Fits k (length s) (acceptedOf r) rows
+      → (q : Recovery) × Given d r ps q × True d q
+  all-given [] on r good f = (r, given.none, answers-true good f)
+  all-given (p ∷ ps) on r good f =
+      let l : p < length s = on p (List·Memᴰ·head refl) in
+      let w = all-given ps (λ q m. on q (List·Memᴰ·tail m)) (offered r (recordBytes d p) .recovery) (offer-good good f p) (offer-fits good f p l) in
+      (w .0, given.next (offer-taken good f p l) (w .1), w .2)
+
+-- ---- the theorem
+
+module _ (kind : ℕ) (s : List ℕ) (f : Free kind s) where
+  opened-none : acceptedOf (opened kind s .recovery) ≡ none
+  opened-none = ap (λ (o : Opened). acceptedOf (o .recovery)) (opened-free kind s f) ∙ fresh-accepted (kindOf kind) s
+
+  -- of a day that was opened and played, over or not
+  pub any-time : (d : Day) → Kept (kindOf kind) s d
+      → IsHistory (kindOf kind) (length s) (executionOf d .row)
+      × ((ps : List ℕ) → ((p : ℕ) → List·Memᴰ p ps → p < length s) → (r : Recovery) × Given d (opened kind s .recovery) ps r × True d r)
+  any-time d g = (
+    is-history (f .sound) (f .serials) g,
+    λ ps on. all-given (f .sound) (f .serials) g ps on (opened kind s .recovery) (good-opened f) (rw opened-none (record { history = is-history (f .sound) (f .serials) g; recorded = λ p e q. clash e refl })),
+  )
+
+-- for every kind and roster free of faults and every list of events, once the day is over: its rows are a history, and its records
+-- are taken or repeated in every order, and what the recovery then answers of a place is true of the day
+pub finished : (kind : ℕ) (s : List ℕ) → Free kind s → (es : List Event) → Over (played (begun kind s .day) es .day)
+    → IsHistory (kindOf kind) (length s) (executionOf (played (begun kind s .day) es .day) .row)
+    × ((ps : List ℕ) → ((p : ℕ) → List·Memᴰ p ps → p < length s)
+    → (r : Recovery) × Given (played (begun kind s .day) es .day) (opened kind s .recovery) ps r × True (played (begun kind s .day) es .day) r)
+finished kind s f es over = any-time kind s f (played (begun kind s .day) es .day) (played-kept (begun-kept kind s f) es)
+
+-- ---- its records are written
+
+pub writes : (d : Day) (p : ℕ) → p < sizeOf d → executionOf d .stopped p ≡ true → (out : List ℕ) (at : ℕ) → at + length (recordBytes d p) ≤ length out
+    → writtenOf d p out at ≡ record { answer = W.Next (at + length (recordBytes d p)); buffer = putAt at (recordBytes d p) out }
+unfolding writtenOf writtenAt recordBytes
+writes d p l s out at room = rw (lt-ltb p (sizeOf d) l, s, le-leb (at + length (layout (recordOf d p))) (length out) room)
+
+pub record-written : (kind : ℕ) (s : List ℕ) → Free kind s → (es : List Event) → Over (played (begun kind s .day) es .day) → (p : ℕ) → p < length s → (out : List ℕ) (at : ℕ)
+    → at + length (recordBytes (played (begun kind s .day) es .day) p) ≤ length out
+    → writtenOf (played (begun kind s .day) es .day) p out at
+    ≡ record {
+      answer = W.Next (at + length (recordBytes (played (begun kind s .day) es .day) p));
+      buffer = putAt at (recordBytes (played (begun kind s .day) es .day) p) out;
+    }
+record-written kind s f es over p l out at room = writes d p on (over p on) out at room
+  where
+    d : Day
+    d = played (begun kind s .day) es .day
+
+    on : p < sizeOf d
+    on = rw (played-kept (begun-kept kind s f) es .sound .is-size) l
+
+-- ---- a day that is over can be had
+
+plays-on : {a b c : Day} {es fs : List Event} → Plays a es b → Plays b fs c → Plays a (es ++ fs) c
+plays-on done q = q
+plays-on (next f p) q = next f (plays-on p q)
+
+abbrev stopOf : ℕ → Event
+stopOf p = record { kind = 1; place = record { 0 = p }; other = record { 0 = 0 } }
+
+-- events after which those below m have stopped
+record Stopping (k : Kind) (s : List ℕ) (d : Day) (m : ℕ) : Type 0 where
+  events : List Event
+  day : Day
+  plays : Plays d events day
+  few : length events ≤ m
+  kept : Kept k s day
+  all : (p : ℕ) → p < m → executionOf day .stopped p ≡ true
+
+module _ {k : Kind} {s : List ℕ} {d : Day} (g : Kept k s d) where
+  one-stop : (m : ℕ) → m < length s → Stopping k s d m → Stopping k s d (suc m)
+  one-stop m l w = go (split (executionOf (w .day) .stopped m))
+    where
+      b : Day
+      b = w .day
+
+      on : m < sizeOf b
+      on = rw (w .kept .sound .is-size) l
+
+      go : (executionOf b .stopped m ≡ true) ⊎ (executionOf b .stopped m ≡ false) → Stopping k s d (suc m)
+      go (inl t) = record {
+        events = w .events;
+        day = b;
+        plays = w .plays;
+        few = omega (arith, w .few);
+        kept = w .kept;
+        all = λ p h. also p (last-or-below p m h);
+      }
+        where
+          also : (p : ℕ) → (p ≡ m) ⊎ (p < m) → executionOf b .stopped p ≡ true
+          also p (inl e) = rw e t
+          also p (inr h) = w .all p h
+      go (inr t) = record {
+        events = w .events ++ (stopOf m ∷ []);
+        day = dayAfter b (stopOf m);
+        plays = plays-on (w .plays) (next free done);
+        few = rw length-append (omega (arith, w .few));
+        kept = kept-after (w .kept) (stopOf m) free;
+        all = λ p h. subst (λ (D : Execution). D .stopped p ≡ true) (sym is) (also p (last-or-below p m h));
+      }
+        where
+          free : faultOn b (stopOf m) ≡ 0
+          free = allowed-free (sizeOf b) (executionOf b) (stopOf m) (stops refl on t)
+
+          is : executionOf (dayAfter b (stopOf m)) ≡ afterStop (executionOf b) m
+          is = after-execution (w .kept .sound) (stopOf m) free ∙ happening-stop (b .kind) (sizeOf b) (executionOf b) (stopOf m) refl
+
+          also : (p : ℕ) → (p ≡ m) ⊎ (p < m) → afterStop (executionOf b) m .stopped p ≡ true
+          also p (inl e) = rw e (or-right (executionOf b .stopped m) (eqb-self m))
+          also p (inr h) = or-left (eqb p m) (w .all p h)
+
+  all-stop : (m : ℕ) → m ≤ length s → Stopping k s d m
+  all-stop zero l = record { events = []; day = d; plays = done; few = omega arith; kept = g; all = λ p h. absurd (omega arith) }
+  all-stop (suc m) l = one-stop m l (all-stop m (omega arith))
+
+-- whatever was played, further events that are all allowed end the day
+pub ends : (kind : ℕ) (s : List ℕ) → Free kind s → (es : List Event) → (fs : List Event) × (played (played (begun kind s .day) es .day) fs .refusal ≡ 0)
+    × Over (played (played (begun kind s .day) es .day) fs .day)
+ends kind s f es =
+    let g = played-kept (begun-kept kind s f) es in
+    let w = all-stop g (length s) (omega arith) in
+    let e = plays-played (w .plays) (omega (arith, w .few, f .sound .few)) in
+    (w .events, ap (λ (p : Played). p .refusal) e, subst (λ (p : Played). Over (p .day)) (sym e) (λ p l. w .all p (rw (w .kept .sound .is-size) at l)))

@@ -1,0 +1,5 @@
+pub mod Executed
+pub mod Days
+pub mod Plays
+pub mod Finished
+pub mod Cases

@@ -1,0 +1,48 @@
+// A day of stops (an execution): who has stopped, and whom each has heard stop. A day goes in by value and comes back by value.
+// The definitions that the contracts cite stand in specs/Contracts.antt, what an event means in specs/Executions.antt.
+use histories::Kind;
+use places::Place;
+use places::PlaceSet;
+use records::Writing;
+use rows::Rows;
+
+// The first `count` of `serials` are the roster. A place in `stopped` runs no more; its row, and that of one that runs, are the places that it
+// has heard stop.
+pub struct Day {
+    pub kind: Kind,
+    pub count: usize,
+    pub serials: [u32; 128],
+    pub stopped: PlaceSet,
+    pub rows: Rows,
+}
+
+pub enum Opening {
+    Opened,
+    Refused(u8),
+}
+
+// What opening gives: where it is refused, the day has no places.
+pub struct Begun {
+    pub answer: Opening,
+    pub day: Day,
+}
+
+// An event: of kind 1, `place` stops; of kind 2, `place` hears that `other` has stopped. No other kind is allowed.
+pub struct Event {
+    pub kind: u8,
+    pub place: Place,
+    pub other: Place,
+}
+
+// What one event gives: its refusal, or 0, and the day after it.
+pub struct Happened {
+    pub refusal: u8,
+    pub day: Day,
+}
+
+// What a list of events gives: how many were played, the refusal that ended the play, or 0, and the day after those played.
+pub struct Played {
+    pub count: usize,
+    pub refusal: u8,
+    pub day: Day,
+}

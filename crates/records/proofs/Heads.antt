@@ -1,0 +1,143 @@
+-- The head of a record at a position of the bytes, section by section: one law for each way that a section goes.
+-- Assumes nothing.
+use mathlib.Core.Path.{_≡_, refl, ap, _∙_}
+use mathlib.Core.Bool.{true, false}
+use mathlib.Core.List.{List, []}
+use Prim.Native.Nat.{ℕ, zero, suc, _+_, _≤_, _<_}
+use lib.Dec.{leb}
+use lib.ListN.{length, getD, drop}
+use borrow.Author.Tests.{le-leb, lt-leb, ne-eqb}
+use Rattle.histories.specs.declared.Kind.{Kind}
+use Rattle.histories.specs.declared.Kind.the-variants.{Full, Short}
+use Rattle.rosters.specs.Rosters.{placeOf, holds}
+use Rattle.records.specs.Layout.{Parsed, got, refused, then, check, wordAt, knownKind, kindOf, kindSection, rosterSerials, rosterSection, Head, headSection}
+use Rattle.records.specs.Parts.{rosterAfter, ownAfter, coded}
+use Rattle.records.proofs.Sections.{check-yes, check-no, byte-early, byte-got, serial-early, serial-zero, serial-got}
+
+pub coded-fault : {A : Type 0} (j : ℕ) (a : A) (s : List ℕ) → (j ≡ 0 → ⊥) → coded j a s ≡ refused j
+unfolding coded
+coded-fault zero a s h = absurd (h refl)
+coded-fault (suc j) a s h = refl
+
+pub coded-none : {A : Type 0} (j : ℕ) (a : A) (s : List ℕ) → j ≡ 0 → coded j a s ≡ got a s
+unfolding coded
+coded-none j a s e = rw e
+
+-- ---- the roster's count, and its serials
+
+counted : ℕ → List ℕ → Parsed (List ℕ)
+counted n s = check (leb 1 n) 3 (check (leb n 128) 3 (rosterSerials n [] s))
+
+module _ (s : List ℕ) (p : ℕ) where
+  roster-early : length s ≤ p → rosterSection (drop p s) ≡ refused 1
+  unfolding rosterSection counted
+  roster-early h = byte-early s p counted h
+
+  module _ (h : p < length s) where
+    roster-few : getD s p 0 < 1 → rosterSection (drop p s) ≡ refused 3
+    unfolding rosterSection counted
+    roster-few e = byte-got s p counted h ∙ check-no _ 3 _ (lt-leb _ _ e)
+
+    roster-many : 1 ≤ getD s p 0 → 128 < getD s p 0 → rosterSection (drop p s) ≡ refused 3
+    unfolding rosterSection counted
+    roster-many f e = byte-got s p counted h ∙ check-yes _ 3 _ (le-leb _ _ f) ∙ check-no _ 3 _ (lt-leb _ _ e)
+
+    roster-counted : 1 ≤ getD s p 0 → getD s p 0 ≤ 128 → rosterSection (drop p s) ≡ rosterSerials (getD s p 0) [] (drop (p + 1) s)
+    unfolding rosterSection counted
+    roster-counted f e = byte-got s p counted h ∙ check-yes _ 3 _ (le-leb _ _ f) ∙ check-yes _ 3 _ (le-leb _ _ e)
+
+-- ---- with the own serial looked up on it
+
+module _ (k : Kind) (own : ℕ) where
+  judge : List ℕ → List ℕ → Parsed Head
+  judge r s₁ = check (holds own r) 6 (got (record { kind = k; own = placeOf own r; roster = r }) s₁)
+
+  after : (s : List ℕ) (q : Parsed (List ℕ)) → rosterSection s ≡ q → rosterAfter k own s ≡ then q judge
+  unfolding rosterAfter judge
+  after s q e = ap (λ (z : Parsed (List ℕ)). then z judge) e
+
+  module _ (s : List ℕ) (p : ℕ) where
+    pub after-early : length s ≤ p → rosterAfter k own (drop p s) ≡ refused 1
+    unfolding then
+    after-early h = after (drop p s) (refused 1) (roster-early s p h)
+
+    module _ (h : p < length s) where
+      pub after-few : getD s p 0 < 1 → rosterAfter k own (drop p s) ≡ refused 3
+      unfolding then
+      after-few e = after (drop p s) (refused 3) (roster-few s p h e)
+
+      module _ (f : 1 ≤ getD s p 0) where
+        pub after-many : 128 < getD s p 0 → rosterAfter k own (drop p s) ≡ refused 3
+        unfolding then
+        after-many e = after (drop p s) (refused 3) (roster-many s p h f e)
+
+        -- the serials were read: r, and `rest` after them, or the fault j
+        module _ (m : getD s p 0 ≤ 128) (j : ℕ) (r rest : List ℕ) (read : rosterSerials (getD s p 0) [] (drop (p + 1) s) ≡ coded j r rest) where
+          pub after-fault : (j ≡ 0 → ⊥) → rosterAfter k own (drop p s) ≡ refused j
+          unfolding then
+          after-fault z = after (drop p s) (refused j) (roster-counted s p h f m ∙ read ∙ coded-fault j r rest z)
+
+          module _ (z : j ≡ 0) where
+            judged : rosterAfter k own (drop p s) ≡ judge r rest
+            unfolding then
+            judged = after (drop p s) (got r rest) (roster-counted s p h f m ∙ read ∙ coded-none j r rest z)
+
+            pub after-strange : holds own r ≡ false → rosterAfter k own (drop p s) ≡ refused 6
+            unfolding judge
+            after-strange e = judged ∙ check-no _ 6 _ e
+
+            pub after-found : holds own r ≡ true → (place : ℕ) → placeOf own r ≡ place
+                → rosterAfter k own (drop p s) ≡ got (record { kind = k; own = place; roster = r }) rest
+            unfolding judge
+            after-found e place w = judged ∙ check-yes _ 6 _ e ∙ rw w
+
+-- ---- the own serial, and the roster after it
+
+module _ (k : Kind) (s : List ℕ) (p : ℕ) where
+  pub own-early : length s < p + 4 → ownAfter k (drop p s) ≡ refused 1
+  unfolding ownAfter
+  own-early h = serial-early s p (rosterAfter k) h
+
+  module _ (h : p + 4 ≤ length s) (x : ℕ) (w : x ≡ wordAt s p) where
+    pub own-zero : x ≡ 0 → ownAfter k (drop p s) ≡ refused 4
+    unfolding ownAfter
+    own-zero z = serial-zero s p (rosterAfter k) h x w z
+
+    pub own-got : (x ≡ 0 → ⊥) → ownAfter k (drop p s) ≡ rosterAfter k x (drop (p + 4) s)
+    unfolding ownAfter
+    own-got z = serial-got s p (rosterAfter k) h x w z
+
+-- ---- the kind, and the own serial after it
+
+known : ℕ → List ℕ → Parsed Kind
+known b s = check (knownKind b) 2 (got (kindOf b) s)
+
+module _ (s : List ℕ) (p : ℕ) where
+  head-is : headSection (drop p s) ≡ then (kindSection (drop p s)) ownAfter
+  unfolding headSection ownAfter rosterAfter
+  head-is = refl
+
+  pub head-early : length s ≤ p → headSection (drop p s) ≡ refused 1
+  unfolding kindSection known then
+  head-early h = head-is ∙ ap (λ (z : Parsed Kind). then z ownAfter) (byte-early s p known h)
+
+  module _ (h : p < length s) where
+    strange : knownKind (getD s p 0) ≡ false → headSection (drop p s) ≡ refused 2
+    unfolding kindSection known then
+    strange e = head-is ∙ ap (λ (z : Parsed Kind). then z ownAfter) (byte-got s p known h ∙ check-no _ 2 _ e)
+
+    kinded : knownKind (getD s p 0) ≡ true → headSection (drop p s) ≡ ownAfter (kindOf (getD s p 0)) (drop (p + 1) s)
+    unfolding kindSection known then
+    kinded e = head-is ∙ ap (λ (z : Parsed Kind). then z ownAfter) (byte-got s p known h ∙ check-yes _ 2 _ e)
+
+    pub head-full : getD s p 0 ≡ 1 → headSection (drop p s) ≡ ownAfter Full (drop (p + 1) s)
+    unfolding knownKind kindOf
+    head-full e = kinded (rw e) ∙ rw e
+
+    pub head-short : getD s p 0 ≡ 2 → headSection (drop p s) ≡ ownAfter Short (drop (p + 1) s)
+    unfolding knownKind kindOf
+    head-short e = kinded (rw e) ∙ rw e
+
+    pub head-unknown : (getD s p 0 ≡ 1 → ⊥) → (getD s p 0 ≡ 2 → ⊥) → headSection (drop p s) ≡ refused 2
+    unfolding knownKind
+    head-unknown a b = strange (rw (ne-eqb (getD s p 0) 1 a, ne-eqb (getD s p 0) 2 b))

@@ -1,0 +1,5 @@
+-- `Layout` is document 01, "A stored record", as a parser and as bytes; `Records` what the contracts cite; `Parts` the steps of
+-- the inner functions.
+pub mod Layout
+pub mod Records
+pub mod Parts

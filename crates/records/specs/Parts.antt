@@ -1,0 +1,94 @@
+-- The reader and the writer in their steps: what the contracts of the inner functions cite. No public contract cites this file.
+-- Assumes nothing.
+use mathlib.Core.Path.{_≡_}
+use mathlib.Core.Bool.{cond}
+use mathlib.Core.List.{List, [], _∷_, _++_}
+use Prim.Native.Nat.{ℕ, zero, suc, _+_, _*_, _≤_}
+use lib.ListN.{length, take, drop}
+use lib.Dec.{ltb}
+use Rattle.places.specs.Sets.{Places}
+use Rattle.places.specs.PlaceSets.{has, Words}
+use Rattle.histories.specs.declared.Kind.{Kind}
+use Rattle.rosters.specs.Rosters.{placeOf, holds, firstRepeat}
+use Rattle.records.specs.declared.Top.{Top}
+use Rattle.records.specs.declared.Heading.{Heading}
+use Rattle.records.specs.declared.Heading.the-variants as H
+use Rattle.records.specs.declared.Mourned.{Mourned}
+use Rattle.records.specs.declared.Mourned.the-variants as M
+use Rattle.records.specs.declared.Tail.{Tail}
+use Rattle.records.specs.declared.Tail.the-variants as T
+use Rattle.records.specs.Layout.{Parsed, got, refused, then, check, serial, rosterSection, Head, Stored, layout}
+
+-- ---- the head, by what was read before
+
+-- from the roster on, where the own serial is known
+unfoldable pub rosterAfter : Kind → ℕ → List ℕ → Parsed Head
+rosterAfter k own s =
+    then (rosterSection s) (λ r s₁. check (holds own r) 6 (got (record { kind = k; own = placeOf own r; roster = r }) s₁))
+
+-- from the own serial on
+unfoldable pub ownAfter : Kind → List ℕ → Parsed Head
+ownAfter k s = then (serial s) (λ own s₁. rosterAfter k own s₁)
+
+-- a section by a fault's number: 0 is none
+unfoldable pub coded : {A : Type 0} → ℕ → A → List ℕ → Parsed A
+coded zero a s = got a s
+coded (suc j) a s = refused (suc j)
+
+-- the first fault of n serials, of which m are there, with the first repeat at d and the first zero at z (at m where there is
+-- none): whichever comes first, and then that some are missing
+unfoldable pub firstFault : ℕ → ℕ → ℕ → ℕ → ℕ
+firstFault d z m n = cond (ltb d z) 5 (cond (ltb z m) 4 (cond (ltb m n) 1 0))
+
+-- of the serials s that are there, with those seen earlier
+unfoldable pub rosterFault : ℕ → List ℕ → List ℕ → ℕ
+rosterFault n seen s = firstFault (firstRepeat seen s) (placeOf 0 s) (length s) n
+
+-- what a head that was found says of the bytes; its roster stands at the front of the list
+unfoldable pub headOf : Heading → List ℕ → List ℕ → Parsed Head
+headOf (H.Found h) b list =
+    got (record { kind = h .kind; own = h .own .0; roster = take (h .count) list }) (drop (h .roster + h .count * 4) b)
+headOf (H.Refused j) b list = refused j
+
+-- its roster starts at a position, is there, fits, and has no repeat
+pub record Rostered (b : List ℕ) (at n : ℕ) (list : List ℕ) : Type 0 where
+  pub there : at + n * 4 ≤ length b
+  pub few : n ≤ 128
+  pub long : length (take n list) ≡ n
+  pub single : firstRepeat [] (take n list) ≡ length (take n list)
+
+pub record Within (t : Top) (b : List ℕ) (at : ℕ) (list : List ℕ) : Type 0 where
+  pub starts : t .roster ≡ at
+  pub rostered : Rostered b at (t .count) list
+
+abbrev pub HeadIn : Heading → List ℕ → ℕ → List ℕ → Type 0
+HeadIn (H.Found h) b at list = Within h b at list
+HeadIn (H.Refused j) b at list = Unit {0}
+
+-- ---- the mourned section
+
+unfoldable pub mournedOf : Mourned → List ℕ → Parsed Places
+mournedOf (M.Set m) s = got (has m) s
+mournedOf (M.Refused j) s = refused j
+
+abbrev pub MournedIn : Mourned → ℕ → ℕ → Type 0
+MournedIn (M.Set m) end all = (end ≤ all) × Words m
+MournedIn (M.Refused j) end all = Unit {0}
+
+unfoldable pub tailOf : Tail → List ℕ → Parsed Places
+tailOf (T.End m next) b = got (has m) (drop next b)
+tailOf (T.Refused j) b = refused j
+
+abbrev pub TailIn : Tail → ℕ → Type 0
+TailIn (T.End m next) all = (next ≤ all) × Words m
+TailIn (T.Refused j) all = Unit {0}
+
+-- ---- the writer
+
+-- a part of a buffer whose first bytes were laid down, with the others as they were
+unfoldable pub front : List ℕ → List ℕ → List ℕ
+front bytes l = bytes ++ drop (length bytes) l
+
+-- the bytes of the record of the place own with the mourned places M
+abbrev pub recordBytes : Kind → ℕ → List ℕ → Places → List ℕ
+recordBytes k own roster M = layout (record { kind = k; own = own; roster = roster; mourned = M })

@@ -1,0 +1,540 @@
+// Stored records: reading one from bytes, of a stream or alone, and writing one into a lent buffer.
+ghost use mathlib.Core.Path.{_≡_};
+ghost use mathlib.Core.Bool.{Bool, true, cond, _&&_};
+ghost use mathlib.Core.List.{[], _∷_, _++_};
+ghost use Prim.Native.Nat.{ℕ, _+_, _*_, _≤_, _<_};
+ghost use lib.Dec.{eqb};
+ghost use lib.ListN.{length, take, drop};
+ghost use Rattle.places.specs.Sets.{nothing, count};
+ghost use Rattle.places.specs.PlaceSets.{has, found};
+ghost use Rattle.rosters.specs.Rosters.{placeOf, firstRepeat};
+ghost use Rattle.records.specs.Layout.{wordAt, rosterSerials, headSection, mournedSerials, mournedSection, kindByte, serialBytes, serialsBytes, chosen};
+ghost use Rattle.records.specs.Records.{reading, readingLone, serials, sameList, rosterThere, rosterIs, copiable, copied, written};
+ghost use Rattle.records.specs.Parts.{rosterAfter, ownAfter, coded, rosterFault, headOf, Rostered, HeadIn, mournedOf, MournedIn, tailOf, TailIn, front, recordBytes};
+use histories::Kind;
+use places::Found;
+use places::Place;
+use places::PlaceSet;
+use rosters::Serial;
+
+// A record that was read: its serials are places, and its roster stays in the lent bytes, `count` serials from position
+// `roster` on. The record ends before position `next`.
+pub struct Record {
+    pub kind: Kind,
+    pub own: Place,
+    pub roster: usize,
+    pub count: usize,
+    pub mourned: PlaceSet,
+    pub next: usize,
+}
+
+pub enum Reading {
+    Read(Record),
+    Refused(u8),
+}
+
+// What the writer says: where the record ends, or the refusal.
+pub enum Writing {
+    Next(usize),
+    Refused(u8),
+}
+
+// A record as far as its roster's end.
+struct Top {
+    kind: Kind,
+    own: Place,
+    roster: usize,
+    count: usize,
+}
+
+enum Heading {
+    Found(Top),
+    Refused(u8),
+}
+
+// The serials of a mourned section, as places.
+enum Mourned {
+    Set(PlaceSet),
+    Refused(u8),
+}
+
+// A mourned section, and where it ends.
+enum Tail {
+    End(PlaceSet, usize),
+    Refused(u8),
+}
+
+// ---- serials in bytes
+
+fn wide(x: u8) -> u32
+    ensures { λ r. ⌜ r ≡ x ⌝ }
+    ensures { λ r. ⌜ r < 256 ⌝ }
+{
+    x as u32
+}
+
+// The serial whose four bytes start at a position, the highest first.
+fn serial_at(bytes: &[u8], at: usize) -> Serial
+    requires { ⌜ at + 4 ≤ length (now bytes) ⌝ }
+    ensures { λ r. ⌜ r .0 ≡ wordAt (now (bytes .entry)) at ⌝ }
+{
+    let a = wide(bytes[at]);
+    let b = wide(bytes[at + 1]);
+    let c = wide(bytes[at + 2]);
+    let d = wide(bytes[at + 3]);
+    Serial(a * 16777216 + b * 65536 + c * 256 + d)
+}
+
+// How many of n serials are there from a position on.
+fn serials_there(bytes: &[u8], at: usize, n: usize) -> usize
+    requires { ⌜ at ≤ length (now bytes) ⌝ }
+    ensures { λ r. ⌜ (r ≤ n) × (at + r * 4 ≤ length (now (bytes .entry))) × (r < n → length (now (bytes .entry)) < at + r * 4 + 4) ⌝ }
+{
+    let m = (bytes.len() - at) / 4;
+    if m < n {
+        return m;
+    }
+    n
+}
+
+// Whether n serials are there, from any position on.
+fn all_there(bytes: &[u8], at: usize, n: usize) -> bool
+    ensures { λ r. ⌜ r ≡ rosterThere (now (bytes .entry)) at n ⌝ }
+{
+    if bytes.len() < at {
+        return false;
+    }
+    n <= (bytes.len() - at) / 4
+}
+
+// Decodes n serials from a position on into the front of a list.
+fn decode(bytes: &[u8], at: usize, n: usize, list: &mut [u32])
+    requires { ⌜ at + n * 4 ≤ length (now bytes) ⌝ }
+    requires { ⌜ n ≤ length (now list) ⌝ }
+    ensures { λ r. ⌜ now (list .exit) ≡ serials n (drop at (now (bytes .entry))) ++ drop n (now (list .entry)) ⌝ }
+{
+    let mut i = 0;
+    while i < n {
+        let x = serial_at(bytes, at + i * 4);
+        list[i] = x.0;
+        i += 1;
+    }
+}
+
+// ---- reading the head
+
+// The first position of serial 0, or the list's length.
+fn first_zero(list: &[u32]) -> usize
+    ensures { λ r. ⌜ r ≡ placeOf 0 (now (list .entry)) ⌝ }
+{
+    let Found::At(place) = rosters::find(list, Serial(0)) else {
+        return list.len();
+    };
+    place.0
+}
+
+// The first fault of a roster of `count` serials, of which the first m of the list are there, or 0.
+fn roster_fault(list: &[u32], m: usize, count: usize) -> u8
+    requires { ⌜ m ≤ length (now list) ⌝ }
+    ensures { λ r. ⌜ r ≡ rosterFault count [] (take m (now (list .entry))) ⌝ }
+{
+    let there = &list[..m];
+    let zero = first_zero(there);
+    let repeat = rosters::first_repeat(there);
+    if repeat < zero {
+        return 5;
+    }
+    if zero < m {
+        return 4;
+    }
+    if m < count {
+        return 1;
+    }
+    0
+}
+
+// The place of a serial among the first n of a list.
+fn find_on(list: &[u32], n: usize, x: Serial) -> Found
+    requires { ⌜ n ≤ length (now list) ⌝ }
+    ensures { λ r. ⌜ r ≡ found (length (take n (now (list .entry)))) (placeOf (x .0) (take n (now (list .entry)))) ⌝ }
+{
+    rosters::find(&list[..n], x)
+}
+
+// The serials of a roster of `count` from a position on, into the front of the list: 0, or the first fault.
+fn read_roster(bytes: &[u8], at: usize, count: usize, list: &mut [u32; 128]) -> u8
+    requires { ⌜ at ≤ length (now bytes) ⌝ }
+    requires { ⌜ count ≤ 128 ⌝ }
+    ensures { λ r. ⌜ rosterSerials count [] (drop at (now (bytes .entry))) ≡ coded r (take count (now (list .exit))) (drop (at + count * 4) (now (bytes .entry))) ⌝ }
+    ensures { λ r. ⌜ (r ≡ 0 → Rostered (now (bytes .entry)) at count (now (list .exit))) ⌝ }
+{
+    let m = serials_there(bytes, at, count);
+    decode(bytes, at, m, list);
+    roster_fault(list, m, count)
+}
+
+// The roster's section at a position, with the own serial looked up on it.
+fn head_roster(bytes: &[u8], at: usize, kind: Kind, own: Serial, list: &mut [u32; 128]) -> Heading
+    requires { ⌜ at ≤ length (now bytes) ⌝ }
+    ensures { λ r. ⌜ rosterAfter kind (own .0) (drop at (now (bytes .entry))) ≡ headOf r (now (bytes .entry)) (now (list .exit)) ⌝ }
+    ensures { λ r. ⌜ HeadIn r (now (bytes .entry)) (at + 1) (now (list .exit)) ⌝ }
+{
+    if bytes.len() <= at {
+        return Heading::Refused(1);
+    }
+    let n = bytes[at] as usize;
+    if n < 1 {
+        return Heading::Refused(3);
+    }
+    if 128 < n {
+        return Heading::Refused(3);
+    }
+    let fault = read_roster(bytes, at + 1, n, list);
+    if fault != 0 {
+        return Heading::Refused(fault);
+    }
+    let Found::At(place) = find_on(list, n, own) else {
+        return Heading::Refused(6);
+    };
+    Heading::Found(Top {
+        kind,
+        own: place,
+        roster: at + 1,
+        count: n,
+    })
+}
+
+// The own serial at a position, and the roster after it.
+fn head_own(bytes: &[u8], at: usize, kind: Kind, list: &mut [u32; 128]) -> Heading
+    requires { ⌜ at ≤ length (now bytes) ⌝ }
+    ensures { λ r. ⌜ ownAfter kind (drop at (now (bytes .entry))) ≡ headOf r (now (bytes .entry)) (now (list .exit)) ⌝ }
+    ensures { λ r. ⌜ HeadIn r (now (bytes .entry)) (at + 5) (now (list .exit)) ⌝ }
+{
+    if bytes.len() - at < 4 {
+        return Heading::Refused(1);
+    }
+    let own = serial_at(bytes, at);
+    if own.0 == 0 {
+        return Heading::Refused(4);
+    }
+    head_roster(bytes, at + 4, kind, own, list)
+}
+
+// Reads the record that starts at a position as far as its roster's end; the roster's serials go into the front of the list.
+fn read_head(bytes: &[u8], at: usize, list: &mut [u32; 128]) -> Heading
+    ensures { λ r. ⌜ headSection (drop at (now (bytes .entry))) ≡ headOf r (now (bytes .entry)) (now (list .exit)) ⌝ }
+    ensures { λ r. ⌜ HeadIn r (now (bytes .entry)) (at + 6) (now (list .exit)) ⌝ }
+{
+    if bytes.len() <= at {
+        return Heading::Refused(1);
+    }
+    let kind = bytes[at];
+    match kind {
+        1 => head_own(bytes, at + 1, Kind::Full, list),
+        2 => head_own(bytes, at + 1, Kind::Short, list),
+        0 | 3..=255 => Heading::Refused(2),
+    }
+}
+
+// ---- reading the mourned section
+
+// The m serials from a position on as places of the roster, which have to rise. They are looked for along the roster, each
+// from the place after the one before it.
+fn read_mourned(bytes: &[u8], at: usize, m: usize, roster: &[u32]) -> Mourned
+    requires { ⌜ at ≤ length (now bytes) ⌝ }
+    requires { ⌜ m ≤ 128 ⌝ }
+    requires { ⌜ length (now roster) ≤ 128 ⌝ }
+    requires { ⌜ firstRepeat [] (now roster) ≡ length (now roster) ⌝ }
+    ensures { λ r. ⌜ mournedSerials m (now (roster .entry)) 0 nothing (drop at (now (bytes .entry))) ≡ mournedOf r (drop (at + m * 4) (now (bytes .entry))) ⌝ }
+    ensures { λ r. ⌜ MournedIn r (at + m * 4) (length (now (bytes .entry))) ⌝ }
+{
+    let mut set = places::empty();
+    let mut from = 0;
+    let mut j = 0;
+    while j < m {
+        let p = at + j * 4;
+        if bytes.len() - p < 4 {
+            return Mourned::Refused(1);
+        }
+        let x = serial_at(bytes, p);
+        if x.0 == 0 {
+            return Mourned::Refused(4);
+        }
+        let Found::At(place) = rosters::find_from(roster, from, x) else {
+            return Mourned::Refused(6);
+        };
+        if place.0 < from {
+            return Mourned::Refused(7);
+        }
+        set = places::with(set, place);
+        from = place.0 + 1;
+        j += 1;
+    }
+    Mourned::Set(set)
+}
+
+// The mourned section at a position, for a roster.
+fn read_tail(bytes: &[u8], at: usize, roster: &[u32]) -> Tail
+    requires { ⌜ at ≤ length (now bytes) ⌝ }
+    requires { ⌜ length (now roster) ≤ 128 ⌝ }
+    requires { ⌜ firstRepeat [] (now roster) ≡ length (now roster) ⌝ }
+    ensures { λ r. ⌜ mournedSection (now (roster .entry)) (drop at (now (bytes .entry))) ≡ tailOf r (now (bytes .entry)) ⌝ }
+    ensures { λ r. ⌜ TailIn r (length (now (bytes .entry))) ⌝ }
+{
+    if bytes.len() <= at {
+        return Tail::Refused(1);
+    }
+    let m = bytes[at] as usize;
+    if roster.len() < m {
+        return Tail::Refused(3);
+    }
+    match read_mourned(bytes, at + 1, m, roster) {
+        Mourned::Refused(fault) => Tail::Refused(fault),
+        Mourned::Set(set) => Tail::End(set, at + 1 + m * 4),
+    }
+}
+
+// ---- reading
+
+// Reads the record that starts at a position; more may follow it.
+pub fn read(bytes: &[u8], at: usize) -> Reading
+    ensures { λ r. ⌜ r ≡ reading (now (bytes .entry)) at ⌝ }
+{
+    let mut list = [0u32; 128];
+    match read_head(bytes, at, &mut list) {
+        Heading::Refused(fault) => Reading::Refused(fault),
+        Heading::Found(head) => {
+            let kind = head.kind;
+            let own = head.own;
+            let roster = head.roster;
+            let count = head.count;
+            match read_tail(bytes, roster + count * 4, &list[..count]) {
+                Tail::Refused(fault) => Reading::Refused(fault),
+                Tail::End(mourned, next) => Reading::Read(Record {
+                    kind,
+                    own,
+                    roster,
+                    count,
+                    mourned,
+                    next,
+                }),
+            }
+        }
+    }
+}
+
+// Reads a lone record: bytes after it are refusal 8.
+pub fn read_lone(bytes: &[u8]) -> Reading
+    ensures { λ r. ⌜ r ≡ readingLone (now (bytes .entry)) ⌝ }
+{
+    match read(bytes, 0) {
+        Reading::Refused(fault) => Reading::Refused(fault),
+        Reading::Read(first) => {
+            if first.next != bytes.len() {
+                return Reading::Refused(8);
+            }
+            Reading::Read(first)
+        }
+    }
+}
+
+// ---- a roster in bytes, and a list
+
+// One more serial compared: a function of its own, so that `same_serials` has no branch.
+fn also(had: bool, x: u32, y: u32) -> bool
+    ensures { λ r. ⌜ r ≡ had && eqb x y ⌝ }
+{
+    had & (x == y)
+}
+
+// Whether the serials from a position on are the list's, as many as it has. The loop has no early end, so that it runs on vectors.
+fn same_serials(bytes: &[u8], at: usize, list: &[u32]) -> bool
+    requires { ⌜ at + length (now list) * 4 ≤ length (now bytes) ⌝ }
+    ensures { λ r. ⌜ r ≡ sameList (serials (length (now (list .entry))) (drop at (now (bytes .entry)))) (now (list .entry)) ⌝ }
+{
+    let mut same = true;
+    let mut i = 0;
+    while i < list.len() {
+        let x = serial_at(bytes, at + i * 4);
+        same = also(same, x.0, list[i]);
+        i += 1;
+    }
+    same
+}
+
+// Whether the `count` serials from a position on are all there and are this list, order included.
+pub fn roster_is(bytes: &[u8], at: usize, count: usize, list: &[u32]) -> bool
+    ensures { λ r. ⌜ r ≡ rosterIs (now (bytes .entry)) at count (now (list .entry)) ⌝ }
+{
+    if !all_there(bytes, at, count) {
+        return false;
+    }
+    if list.len() != count {
+        return false;
+    }
+    same_serials(bytes, at, list)
+}
+
+// Copies the `count` serials from a position on into the front of the list; where they are not all there, or are above 128, it
+// says so and changes nothing.
+pub fn copy_roster(bytes: &[u8], at: usize, count: usize, list: &mut [u32; 128]) -> bool
+    ensures { λ r. ⌜ r ≡ copiable (now (bytes .entry)) at count ⌝ }
+    ensures { λ r. ⌜ now (list .exit) ≡ copied (now (bytes .entry)) at count (now (list .entry)) ⌝ }
+{
+    if !all_there(bytes, at, count) {
+        return false;
+    }
+    if 128 < count {
+        return false;
+    }
+    decode(bytes, at, count, list);
+    true
+}
+
+// ---- writing: each writer lays its bytes into the front of the part that is lent to it
+
+fn kind_byte(kind: Kind) -> u8
+    ensures { λ r. ⌜ r ≡ kindByte kind ⌝ }
+{
+    match kind {
+        Kind::Full => 1,
+        Kind::Short => 2,
+    }
+}
+
+// How many places below n are members.
+fn count_below(s: PlaceSet, n: usize) -> usize
+    requires { ⌜ n ≤ 128 ⌝ }
+    ensures { λ r. ⌜ r ≡ count n (has s) ⌝ }
+{
+    let first = places::below(n);
+    let on = places::intersection(s, first);
+    places::count(on)
+}
+
+fn put_serial(out: &mut [u8], x: u32)
+    requires { ⌜ 4 ≤ length (now out) ⌝ }
+    ensures { λ r. ⌜ now (out .exit) ≡ front (serialBytes x) (now (out .entry)) ⌝ }
+{
+    out[0] = (x / 16777216 % 256) as u8;
+    out[1] = (x / 65536 % 256) as u8;
+    out[2] = (x / 256 % 256) as u8;
+    out[3] = (x % 256) as u8;
+}
+
+fn put_serials(out: &mut [u8], list: &[u32])
+    requires { ⌜ length (now list) * 4 ≤ length (now out) ⌝ }
+    ensures { λ r. ⌜ now (out .exit) ≡ front (serialsBytes (now (list .entry))) (now (out .entry)) ⌝ }
+{
+    let mut i = 0;
+    while i < list.len() {
+        let p = i * 4;
+        put_serial(&mut out[p..], list[i]);
+        i += 1;
+    }
+}
+
+// A serial where it is chosen, and how many bytes that took.
+fn put_if(out: &mut [u8], yes: bool, x: u32) -> usize
+    requires { ⌜ (yes ≡ true → 4 ≤ length (now out)) ⌝ }
+    ensures { λ r. ⌜ r ≡ length (cond yes (serialBytes x) []) ⌝ }
+    ensures { λ r. ⌜ now (out .exit) ≡ front (cond yes (serialBytes x) []) (now (out .entry)) ⌝ }
+{
+    if !yes {
+        return 0;
+    }
+    put_serial(out, x);
+    4
+}
+
+// The serials whose places are in the set, in roster order.
+fn put_chosen(out: &mut [u8], roster: &[u32], set: PlaceSet)
+    requires { ⌜ length (chosen (has set) (now roster)) * 4 ≤ length (now out) ⌝ }
+    ensures { λ r. ⌜ now (out .exit) ≡ front (serialsBytes (chosen (has set) (now (roster .entry)))) (now (out .entry)) ⌝ }
+{
+    let mut p = 0;
+    let mut i = 0;
+    while i < roster.len() {
+        let on = places::contains(set, Place(i));
+        let took = put_if(&mut out[p..], on, roster[i]);
+        p += took;
+        i += 1;
+    }
+}
+
+// Kind and own serial.
+fn put_top(out: &mut [u8], kind: Kind, own: u32)
+    requires { ⌜ 5 ≤ length (now out) ⌝ }
+    ensures { λ r. ⌜ now (out .exit) ≡ front (kindByte kind ∷ serialBytes own) (now (out .entry)) ⌝ }
+{
+    out[0] = kind_byte(kind);
+    put_serial(&mut out[1..], own);
+}
+
+// The roster's section.
+fn put_roster(out: &mut [u8], roster: &[u32])
+    requires { ⌜ length (now roster) ≤ 128 ⌝ }
+    requires { ⌜ 1 + length (now roster) * 4 ≤ length (now out) ⌝ }
+    ensures { λ r. ⌜ now (out .exit) ≡ front (length (now (roster .entry)) ∷ serialsBytes (now (roster .entry))) (now (out .entry)) ⌝ }
+{
+    out[0] = roster.len() as u8;
+    put_serials(&mut out[1..], roster);
+}
+
+// The mourned section, of m serials.
+fn put_mourned(out: &mut [u8], roster: &[u32], set: PlaceSet, m: usize)
+    requires { ⌜ m ≤ 128 ⌝ }
+    requires { ⌜ m ≡ length (chosen (has set) (now roster)) ⌝ }
+    requires { ⌜ 1 + m * 4 ≤ length (now out) ⌝ }
+    ensures { λ r. ⌜ now (out .exit) ≡ front (m ∷ serialsBytes (chosen (has set) (now (roster .entry)))) (now (out .entry)) ⌝ }
+{
+    out[0] = m as u8;
+    put_chosen(&mut out[1..], roster, set);
+}
+
+// The three sections of a record, one after the other.
+fn put_record(out: &mut [u8], kind: Kind, own: usize, roster: &[u32], set: PlaceSet, m: usize)
+    requires { ⌜ own < length (now roster) ⌝ }
+    requires { ⌜ length (now roster) ≤ 128 ⌝ }
+    requires { ⌜ m ≤ 128 ⌝ }
+    requires { ⌜ m ≡ length (chosen (has set) (now roster)) ⌝ }
+    requires { ⌜ 7 + length (now roster) * 4 + m * 4 ≤ length (now out) ⌝ }
+    ensures { λ r. ⌜ now (out .exit) ≡ front (recordBytes kind own (now (roster .entry)) (has set)) (now (out .entry)) ⌝ }
+{
+    let p = 6 + roster.len() * 4;
+    put_top(out, kind, roster[own]);
+    put_roster(&mut out[5..], roster);
+    put_mourned(&mut out[p..], roster, set, m);
+}
+
+// Lays the record of the member at `own` into the buffer from a position on. It refuses by 12 a place off the roster, by 3 a
+// roster above 128, by 13 a buffer that is too short from there on, and then changes nothing.
+pub fn write(
+    kind: Kind,
+    own: Place,
+    roster: &[u32],
+    mourned: PlaceSet,
+    out: &mut [u8],
+    at: usize,
+) -> Writing
+    ensures { λ r. ⌜ r ≡ written kind (own .0) (now (roster .entry)) (has mourned) (now (out .entry)) at .answer ⌝ }
+    ensures { λ r. ⌜ now (out .exit) ≡ written kind (own .0) (now (roster .entry)) (has mourned) (now (out .entry)) at .buffer ⌝ }
+{
+    let n = roster.len();
+    if n <= own.0 {
+        return Writing::Refused(12);
+    }
+    if 128 < n {
+        return Writing::Refused(3);
+    }
+    let m = count_below(mourned, n);
+    let size = 7 + n * 4 + m * 4;
+    if out.len() < at {
+        return Writing::Refused(13);
+    }
+    if out.len() - at < size {
+        return Writing::Refused(13);
+    }
+    put_record(&mut out[at..], kind, own.0, roster, mourned, m);
+    Writing::Next(at + size)
+}

@@ -1,0 +1,214 @@
+-- What each call gives, case by case: one law for each case, as the code meets it. Assumes nothing.
+use mathlib.Core.Path.{_≡_, sym, ap, ap₂, _∙_}
+use mathlib.Core.Bool.{Bool, true, false, cond, _&&_}
+use mathlib.Core.Logic.{_⊎_, inl, inr}
+use mathlib.Core.List.{List}
+use Prim.Native.Nat.{ℕ, _+_, _*_, _<_, _≤_}
+use lib.ListN.{length}
+use lib.Dec.{leb, ltb}
+use borrow.Author.Tests.{lt-ltb, le-ltb, le-leb, lt-leb}
+use Rattle.places.specs.Sets.{same, count}
+use Rattle.places.specs.PlaceSets.{found}
+use Rattle.places.specs.declared.Found.the-variants.{At, Nothing}
+use Rattle.places.proofs.Booleans.{clash, is-false, and-intro, and-left, and-right}
+use Rattle.histories.specs.Histories.{Row}
+use Rattle.histories.specs.Rule.{Answer, is-last, not-last, is-open, answer, recorded, second, accepts, fitsTest, settled, unmourned, unmournedAbsent, unmournedCount}
+use Rattle.rosters.specs.Rosters.{placeOf}
+use Rattle.rows.specs.Rows.{historyIn, laid}
+use Rattle.records.specs.declared.Writing.the-variants as W
+use Rattle.records.specs.Layout.{got, refused, Stored, lone, layout}
+use Rattle.records.specs.Records.{sameList, putAt, unwritten, writtenAt}
+use Rattle.recovery.specs.declared.Recovery.{Recovery}
+use Rattle.recovery.specs.declared.Reply.the-variants as O
+use Rattle.recovery.specs.declared.Asked.the-variants as A
+use Rattle.recovery.specs.declared.Showing.the-variants as S
+use Rattle.recovery.specs.declared.Checked.the-variants as C
+use Rattle.checks.specs.Checks.{offRoster}
+use Rattle.recovery.specs.Contracts.{sizeOf, rosterOf, acceptedOf, sameKind, ofGroup, saying, keeping, again, newly, entered, judged, offeredAs, offered, answerAt, askedAs, asked, Shown, unshown, shownOpen, shownAs, shown, checkedRows, checked, settledOf, unmournedOf, unmournedAbsentOf, unmournedCountOf, foundIn, recordOf, writtenOf}
+use Rattle.recovery.proofs.Facts.{same-kind-elim, same-kind-self, same-list-elim, same-list-self}
+
+-- ---- offering
+
+-- the record is of this recovery's group
+pub group-elim : (r : Recovery) (x : Stored) → ofGroup r x ≡ true → (x .kind ≡ r .kind) × (x .roster ≡ rosterOf r)
+unfolding ofGroup
+group-elim r x e =
+    let k = sameKind (x .kind) (r .kind) in
+    let l = sameList (x .roster) (rosterOf r) in
+    (same-kind-elim (x .kind) (r .kind) (and-left k l e), same-list-elim (x .roster) (rosterOf r) (and-right k l e))
+
+pub group-intro : (r : Recovery) (x : Stored) → x .kind ≡ r .kind → x .roster ≡ rosterOf r → ofGroup r x ≡ true
+unfolding ofGroup
+group-intro r x k s = and-intro (ap (sameKind (x .kind)) (sym k) ∙ same-kind-self (x .kind)) (ap (sameList (x .roster)) (sym s) ∙ same-list-self (x .roster))
+
+module _ (r : Recovery) (bytes : List ℕ) where
+  pub offered-faulty : (j : ℕ) → lone bytes ≡ refused j → offered r bytes ≡ saying r (O.Refused j)
+  unfolding offered offeredAs
+  offered-faulty j e = ap (offeredAs r) e
+
+  module _ (x : Stored) (rest : List ℕ) (e : lone bytes ≡ got x rest) where
+    pub offered-foreign : ¬ ((x .kind ≡ r .kind) × (x .roster ≡ rosterOf r)) → offered r bytes ≡ saying r (O.Refused 9)
+    unfolding offered offeredAs judged
+    offered-foreign z =
+        ap (offeredAs r) e ∙ ap (λ (b : Bool). cond b (entered r (x .own) (x .mourned)) (saying r (O.Refused 9))) (is-false (ofGroup r x) (λ t. z (group-elim r x t)))
+
+    pub offered-entered : x .kind ≡ r .kind → x .roster ≡ rosterOf r → offered r bytes ≡ entered r (x .own) (x .mourned)
+    unfolding offered offeredAs judged
+    offered-entered k s =
+        ap (offeredAs r) e ∙ ap (λ (b : Bool). cond b (entered r (x .own) (x .mourned)) (saying r (O.Refused 9))) (group-intro r x k s)
+
+module _ (r : Recovery) {n : ℕ} (is : sizeOf r ≡ n) where
+  module _ (p : ℕ) (M : Row) where
+    -- of one that is back
+    pub entered-again : acceptedOf r .returned p ≡ true → (t : Bool) → same n M (acceptedOf r .row p) ≡ t → entered r p M ≡ saying r (cond t O.Repeated (O.Refused 10))
+    unfolding entered again
+    entered-again b t e =
+        ap (λ (c : Bool). cond c (again r p M) (newly r p M)) b ∙ ap (λ (m : ℕ). saying r (cond (same m M (acceptedOf r .row p)) O.Repeated (O.Refused 10))) is
+        ∙ ap (λ (c : Bool). saying r (cond c O.Repeated (O.Refused 10))) e
+
+    -- of another
+    pub entered-new : acceptedOf r .returned p ≡ false → (t : Bool) → accepts (r .kind) n (acceptedOf r) p M ≡ t
+        → entered r p M ≡ cond t (record { answer = O.Taken; recovery = keeping r p M }) (saying r (O.Refused 11))
+    unfolding entered newly
+    entered-new b t e =
+        ap (λ (c : Bool). cond c (again r p M) (newly r p M)) b
+        ∙ ap (λ (m : ℕ). cond (accepts (r .kind) m (acceptedOf r) p M) (record { answer = O.Taken; recovery = keeping r p M }) (saying r (O.Refused 11))) is
+        ∙ ap (λ (c : Bool). cond c (record { answer = O.Taken; recovery = keeping r p M }) (saying r (O.Refused 11))) e
+
+  -- ---- asking
+
+  answer-is : (i : ℕ) → answerAt r i ≡ answer (r .kind) n (acceptedOf r) i
+  unfolding answerAt
+  answer-is i = ap (λ (m : ℕ). answer (r .kind) m (acceptedOf r) i) is
+
+  pub asked-off : (i : ℕ) → n ≤ i → asked r i ≡ A.Refused 12
+  unfolding asked
+  asked-off i l = ap₂ (λ (m : ℕ) (a : Answer). cond (ltb i m) (askedAs a) (A.Refused 12)) is (answer-is i) ∙ ap (λ (b : Bool). cond b (askedAs (answer (r .kind) n (acceptedOf r) i)) (A.Refused 12)) (le-ltb i n l)
+
+  pub asked-is : (i : ℕ) (a : Answer) → i < n → answer (r .kind) n (acceptedOf r) i ≡ a → asked r i ≡ askedAs a
+  unfolding asked
+  asked-is i a l e =
+      ap₂ (λ (m : ℕ) (a : Answer). cond (ltb i m) (askedAs a) (A.Refused 12)) is (answer-is i ∙ e) ∙ ap (λ (b : Bool). cond b (askedAs a) (A.Refused 12)) (lt-ltb i n l)
+
+  -- ---- showing
+
+  module _ (i : ℕ) (a b : List ℕ) where
+    pub shown-off : n ≤ i → shown r i a b ≡ unshown (S.Refused 12) a b
+    unfolding shown
+    shown-off l = ap (λ (m : ℕ). cond (ltb i m) (shownAs (answerAt r i) r i a b) (unshown (S.Refused 12) a b)) is ∙ ap (λ (t : Bool). cond t (shownAs (answerAt r i) r i a b) (unshown (S.Refused 12) a b)) (le-ltb i n l)
+
+    shown-at : (w : Answer) → i < n → answer (r .kind) n (acceptedOf r) i ≡ w → shown r i a b ≡ shownAs w r i a b
+    unfolding shown
+    shown-at w l e =
+        ap₂ (λ (m : ℕ) (w : Answer). cond (ltb i m) (shownAs w r i a b) (unshown (S.Refused 12) a b)) is (answer-is i ∙ e) ∙ ap (λ (t : Bool). cond t (shownAs w r i a b) (unshown (S.Refused 12) a b)) (lt-ltb i n l)
+
+    pub shown-last : i < n → answer (r .kind) n (acceptedOf r) i ≡ is-last → shown r i a b ≡ unshown S.Decided a b
+    unfolding shownAs
+    shown-last l e = shown-at is-last l e
+
+    pub shown-not : i < n → answer (r .kind) n (acceptedOf r) i ≡ not-last → shown r i a b ≡ unshown S.Decided a b
+    unfolding shownAs
+    shown-not l e = shown-at not-last l e
+
+    module _ (l : i < n) (e : answer (r .kind) n (acceptedOf r) i ≡ is-open) where
+      shown-open : (t : Bool) → leb (16 * n) (length a) && leb (16 * n) (length b) ≡ t
+          → shown r i a b ≡ cond t (record { answer = S.Shown; first = laid n (recorded (acceptedOf r)) a; second = laid n (second (r .kind) n (acceptedOf r) i) b }) (unshown (S.Refused 13) a b)
+      unfolding shownAs shownOpen
+      shown-open t h =
+          shown-at is-open l e
+          ∙ ap (λ (m : ℕ). cond (leb (16 * m) (length a) && leb (16 * m) (length b)) (record { answer = S.Shown; first = laid m (recorded (acceptedOf r)) a; second = laid m (second (r .kind) m (acceptedOf r) i) b }) (unshown (S.Refused 13) a b)) is
+          ∙ ap (λ (t : Bool). cond t (record { answer = S.Shown; first = laid n (recorded (acceptedOf r)) a; second = laid n (second (r .kind) n (acceptedOf r) i) b }) (unshown (S.Refused 13) a b)) h
+
+      pub shown-short : (length a < 16 * n) ⊎ (length b < 16 * n) → shown r i a b ≡ unshown (S.Refused 13) a b
+      shown-short s = shown-open false (short s)
+        where
+          short : (length a < 16 * n) ⊎ (length b < 16 * n) → leb (16 * n) (length a) && leb (16 * n) (length b) ≡ false
+          short (inl s) = ap (λ (t : Bool). t && leb (16 * n) (length b)) (lt-leb (16 * n) (length a) s)
+          short (inr s) = is-false _ (λ t. clash (and-right (leb (16 * n) (length a)) (leb (16 * n) (length b)) t) (lt-leb (16 * n) (length b) s))
+
+      pub shown-both : 16 * n ≤ length a → 16 * n ≤ length b
+          → shown r i a b ≡ record { answer = S.Shown; first = laid n (recorded (acceptedOf r)) a; second = laid n (second (r .kind) n (acceptedOf r) i) b }
+      shown-both u v = shown-open true (and-intro (le-leb (16 * n) (length a) u) (le-leb (16 * n) (length b) v))
+
+  -- ---- checking a lent history
+
+  module _ (h : List ℕ) where
+    pub checked-short : length h < 16 * n → checked r h ≡ C.Refused 13
+    unfolding checked
+    checked-short l =
+        ap (λ (m : ℕ). cond (leb (16 * m) (length h)) (checkedRows r (historyIn m h)) (C.Refused 13)) is ∙ ap (λ (t : Bool). cond t (checkedRows r (historyIn n h)) (C.Refused 13)) (lt-leb (16 * n) (length h) l)
+
+    module _ (l : 16 * n ≤ length h) where
+      rows-checked : checked r h ≡ cond (offRoster n (historyIn n h)) (C.Refused 15) (cond (fitsTest (r .kind) n (acceptedOf r) (historyIn n h)) C.Fits C.FitsNot)
+      unfolding checked checkedRows
+      rows-checked =
+          ap (λ (m : ℕ). cond (leb (16 * m) (length h)) (cond (offRoster m (historyIn m h)) (C.Refused 15) (cond (fitsTest (r .kind) m (acceptedOf r) (historyIn m h)) C.Fits C.FitsNot)) (C.Refused 13)) is
+          ∙ ap (λ (t : Bool). cond t (cond (offRoster n (historyIn n h)) (C.Refused 15) (cond (fitsTest (r .kind) n (acceptedOf r) (historyIn n h)) C.Fits C.FitsNot)) (C.Refused 13)) (le-leb (16 * n) (length h) l)
+
+      pub checked-off : offRoster n (historyIn n h) ≡ true → checked r h ≡ C.Refused 15
+      checked-off e = rows-checked ∙ ap (λ (t : Bool). cond t (C.Refused 15) (cond (fitsTest (r .kind) n (acceptedOf r) (historyIn n h)) C.Fits C.FitsNot)) e
+
+      pub checked-on : offRoster n (historyIn n h) ≡ false → (t : Bool) → fitsTest (r .kind) n (acceptedOf r) (historyIn n h) ≡ t → checked r h ≡ cond t C.Fits C.FitsNot
+      checked-on e t f =
+          rows-checked ∙ ap₂ (λ (o t : Bool). cond o (C.Refused 15) (cond t C.Fits C.FitsNot)) e f
+
+  -- ---- the whole, the two sets and the number
+
+  pub settled-is : settledOf r ≡ settled (r .kind) n (acceptedOf r)
+  unfolding settledOf
+  settled-is = ap (λ (m : ℕ). settled (r .kind) m (acceptedOf r)) is
+
+  pub unmourned-is : unmournedOf r ≡ unmourned n (acceptedOf r)
+  unfolding unmournedOf
+  unmourned-is = ap (λ (m : ℕ). unmourned m (acceptedOf r)) is
+
+  pub absent-is : unmournedAbsentOf r ≡ unmournedAbsent n (acceptedOf r)
+  unfolding unmournedAbsentOf
+  absent-is = ap (λ (m : ℕ). unmournedAbsent m (acceptedOf r)) is
+
+  pub count-is : unmournedCountOf r ≡ count n (unmourned n (acceptedOf r))
+  unfolding unmournedCountOf unmournedCount
+  count-is = ap (λ (m : ℕ). count m (unmourned m (acceptedOf r))) is
+
+  -- ---- writing a returned record
+
+  module _ (p : ℕ) (out : List ℕ) (at : ℕ) where
+    pub written-off : n ≤ p → writtenOf r p out at ≡ unwritten 12 out
+    unfolding writtenOf
+    written-off l =
+        ap (λ (m : ℕ). cond (ltb p m) (cond (acceptedOf r .returned p) (writtenAt (layout (recordOf r p)) out at) (unwritten 14 out)) (unwritten 12 out)) is
+        ∙ ap (λ (t : Bool). cond t (cond (acceptedOf r .returned p) (writtenAt (layout (recordOf r p)) out at) (unwritten 14 out)) (unwritten 12 out)) (le-ltb p n l)
+
+    module _ (l : p < n) where
+      written-on : (t : Bool) → acceptedOf r .returned p ≡ t → writtenOf r p out at ≡ cond t (writtenAt (layout (recordOf r p)) out at) (unwritten 14 out)
+      unfolding writtenOf
+      written-on t b =
+          ap₂ (λ (m : ℕ) (t : Bool). cond (ltb p m) (cond t (writtenAt (layout (recordOf r p)) out at) (unwritten 14 out)) (unwritten 12 out)) is b
+          ∙ ap (λ (c : Bool). cond c (cond t (writtenAt (layout (recordOf r p)) out at) (unwritten 14 out)) (unwritten 12 out)) (lt-ltb p n l)
+
+      pub written-absent : acceptedOf r .returned p ≡ false → writtenOf r p out at ≡ unwritten 14 out
+      written-absent b = written-on false b
+
+      pub written-short : acceptedOf r .returned p ≡ true → length out < at + length (layout (recordOf r p)) → writtenOf r p out at ≡ unwritten 13 out
+      unfolding writtenAt
+      written-short b u =
+          written-on true b
+          ∙ ap (λ (t : Bool). cond t (record { answer = W.Next (at + length (layout (recordOf r p))); buffer = putAt at (layout (recordOf r p)) out }) (unwritten 13 out)) (lt-leb (at + length (layout (recordOf r p))) (length out) u)
+
+      pub written-at : acceptedOf r .returned p ≡ true → at + length (layout (recordOf r p)) ≤ length out
+          → writtenOf r p out at ≡ record { answer = W.Next (at + length (layout (recordOf r p))); buffer = putAt at (layout (recordOf r p)) out }
+      unfolding writtenAt
+      written-at b u =
+          written-on true b
+          ∙ ap (λ (t : Bool). cond t (record { answer = W.Next (at + length (layout (recordOf r p))); buffer = putAt at (layout (recordOf r p)) out }) (unwritten 13 out)) (le-leb (at + length (layout (recordOf r p))) (length out) u)
+
+-- ---- the place of a serial
+
+module _ (r : Recovery) (x : ℕ) where
+  pub found-there : placeOf x (rosterOf r) < length (rosterOf r) → foundIn r x ≡ At (record { 0 = placeOf x (rosterOf r) })
+  unfolding foundIn found
+  found-there l = ap (λ (t : Bool). cond t (At (record { 0 = placeOf x (rosterOf r) })) Nothing) (lt-ltb (placeOf x (rosterOf r)) (length (rosterOf r)) l)
+
+  pub found-nowhere : length (rosterOf r) ≤ placeOf x (rosterOf r) → foundIn r x ≡ Nothing
+  unfolding foundIn found
+  found-nowhere l = ap (λ (t : Bool). cond t (At (record { 0 = placeOf x (rosterOf r) })) Nothing) (le-ltb (placeOf x (rosterOf r)) (length (rosterOf r)) l)

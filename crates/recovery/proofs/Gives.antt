@@ -1,0 +1,156 @@
+-- What each call gives, one law for each way in which the code returns. Assumes nothing.
+use mathlib.Core.Path.{_≡_, refl, sym, ap, _∙_, subst, fun-ext}
+use mathlib.Core.Bool.{Bool, true, false, not, cond, _&&_, _||_}
+use mathlib.Core.List.{List, [], _∷_, _++_}
+use Prim.Native.Nat.{ℕ, zero, suc, _+_, _-_, _*_, _≤_, _<_}
+use native.Mathlib.Omega.{arith}
+use native.Mathlib.Nat.{sub-zero, zero-sub}
+use native.Mathlib.Numerals.{add-one}
+use lib.ListN.{length, take, drop, getD, set, replicate}
+use lib.Seq.{paste, paste-suc, take-length}
+use lib.Dec.{eqb, leb, ltb}
+use borrow.Author.Tests.{le-leb, lt-leb, lt-ltb, le-ltb, ltb-true, eq-eqb, ne-eqb}
+use Rattle.places.specs.Sets.{Places, nothing, below, intersection, difference, with, count}
+use Rattle.places.specs.PlaceSets.{has, kept, Words, packed, found}
+use Rattle.places.specs.declared.PlaceSet.{PlaceSet}
+use Rattle.places.proofs.Booleans.{clash, and-left}
+use Rattle.places.proofs.Counting.{count-within}
+use Rattle.places.proofs.Laws.{packed-is, kept-has, has-ext, packed-words, has-packed}
+use Rattle.histories.specs.declared.Kind.{Kind}
+use Rattle.histories.specs.declared.Kind.the-variants.{Full, Short}
+use Rattle.histories.specs.Histories.{History}
+use Rattle.histories.specs.Rule as R
+use Rattle.rosters.specs.Rosters.{placeOf, listed}
+use Rattle.rosters.specs.declared.Listed.{Listed}
+use Rattle.rosters.specs.declared.Listed.the-variants as L
+use Rattle.rows.specs.Rows.{noRows, withRow, historyIn, laid}
+use Rattle.records.specs.Layout.{knownKind, kindOf}
+use Rattle.answers.specs.Views.{size, acceptedIn, answerOf}
+use Rattle.answers.specs.declared.Answer as declared
+use Rattle.answers.specs.declared.Answer.the-variants as B
+use Rattle.answers.proofs.Views.{size-at-most}
+use Rattle.checks.specs.Checks.{offRoster}
+use Rattle.recovery.proofs.Calls.{asked-is}
+use Rattle.recovery.specs.declared.Recovery.{Recovery}
+use Rattle.recovery.specs.declared.Opening.the-variants as G
+use Rattle.recovery.specs.declared.Opened.{Opened}
+use Rattle.recovery.specs.declared.Asked.{Asked}
+use Rattle.recovery.specs.declared.Asked.the-variants as A
+use Rattle.recovery.specs.declared.Showing.the-variants as S
+use Rattle.recovery.specs.declared.Checked.the-variants as C
+use Rattle.recovery.specs.Contracts.{sizeOf, rosterOf, acceptedOf, fresh, unopened, openedAs, opened, keeping, answerAt, askedAs, asked, Shown, unshown, shownOpen, shownAs, shown, checkedRows, checked, unmournedOf, unmournedAbsentOf, unmournedCountOf}
+
+-- ---- the roster's length
+
+pub size-small : (count : ℕ) → count ≤ 128 → count ≡ size count
+unfolding size
+size-small count h = rw (le-leb count 128 h)
+
+pub size-large : (count : ℕ) → 128 < count → 128 ≡ size count
+unfolding size
+size-large count h = rw (lt-leb count 128 h)
+
+-- ---- opening
+
+-- one serial more is in its place
+pub paste-more : (d s : List ℕ) (i : ℕ) → i < length d → i < length s → set (paste d 0 s i) i (getD s i 0) ≡ paste d 0 s (i + 1)
+paste-more d s i h k =
+    let z : 0 + i ≡ i = omega arith in
+    let e : set (paste d 0 s i) (0 + i) (getD s i 0) ≡ paste d 0 s (i + 1) = rw add-one (paste-suc d 0 s i 0 (rw z h) k) in
+    subst (λ (n : ℕ). set (paste d 0 s i) n (getD s i 0) ≡ paste d 0 s (i + 1)) z e
+
+drop-replicate : (n m a : ℕ) → drop n (replicate m a) ≡ replicate (m - n) a
+drop-replicate zero m a = rw sub-zero
+drop-replicate (suc n) zero a = rw zero-sub
+drop-replicate (suc n) (suc m) a = let e : suc m - suc n ≡ m - n = omega arith in rw e (drop-replicate n m a)
+
+pub pasted-all : (s : List ℕ) (i : ℕ) → i ≤ length s → length s ≤ i → length s ≤ 128 → paste (replicate 128 0) 0 s i ≡ s ++ replicate (128 - length s) 0
+pasted-all s i h k l =
+    let e : i ≡ length s = omega arith in
+    let z : 0 + length s ≡ length s = omega arith in
+    rw (e, take-length, z, drop-replicate)
+
+-- the set with no member is the packed one
+none-packed : (e : PlaceSet) → Words e → has e ≡ nothing → e ≡ packed nothing
+none-packed e w h = packed-is e nothing w h
+
+pub fresh-is : (k : Kind) (s serials : List ℕ) (e : PlaceSet) (w : List ℕ) → serials ≡ s ++ replicate (128 - length s) 0 → Words e → has e ≡ nothing → w ≡ noRows
+    → record { kind = k; count = length s; serials = serials; returned = e; rows = w } ≡ fresh k s
+unfolding fresh
+fresh-is k s serials e w p we he q = λ i. record { kind = k; count = length s; serials = p i; returned = none-packed e we he i; rows = q i }
+
+pub unopened-is : (j : ℕ) (e : PlaceSet) (w : List ℕ) → Words e → has e ≡ nothing → w ≡ noRows
+    → record { answer = G.Refused j; recovery = record { kind = Full; count = 0; serials = replicate 128 0; returned = e; rows = w } } ≡ unopened j
+unfolding unopened fresh
+unopened-is j e w we he q = λ i. record { answer = G.Refused j; recovery = record { kind = Full; count = 0; serials = replicate 128 0; returned = none-packed e we he i; rows = q i } }
+
+pub opened-sound : (k : Kind) (s : List ℕ) (l : Listed) → l ≡ listed s → l ≡ L.Sound → record { answer = G.Opened; recovery = fresh k s } ≡ openedAs k s (listed s)
+unfolding openedAs
+opened-sound k s l e f = rw (sym e ∙ f)
+
+pub opened-refused : (k : Kind) (s : List ℕ) (l : Listed) (j : ℕ) → l ≡ listed s → l ≡ L.Refused j → unopened j ≡ openedAs k s (listed s)
+unfolding openedAs
+opened-refused k s l j e f = rw (sym e ∙ f)
+
+pub opened-full : (kind : ℕ) (s : List ℕ) → kind ≡ 1 → openedAs Full s (listed s) ≡ opened kind s
+unfolding opened knownKind kindOf
+opened-full kind s e = rw e
+
+pub opened-short : (kind : ℕ) (s : List ℕ) → kind ≡ 2 → openedAs Short s (listed s) ≡ opened kind s
+unfolding opened knownKind kindOf
+opened-short kind s e = rw e
+
+pub opened-unknown : (kind : ℕ) (s : List ℕ) → (kind ≡ 1 → ⊥) → (kind ≡ 2 → ⊥) → unopened 2 ≡ opened kind s
+unfolding opened knownKind
+opened-unknown kind s a b = rw (ne-eqb kind 1 a, ne-eqb kind 2 b)
+
+-- ---- keeping
+
+pub keep-is : (r : Recovery) (p : ℕ) (m w : PlaceSet) (t : List ℕ) → Words m → Words w → has w ≡ kept (with p (has (r .returned))) → t ≡ withRow (r .rows) p m
+    → record { kind = r .kind; count = r .count; serials = r .serials; returned = w; rows = t } ≡ keeping r p (has m)
+unfolding keeping
+keep-is r p m w t hm hw e q = λ i. record {
+  kind = r .kind;
+  count = r .count;
+  serials = r .serials;
+  returned = packed-is w (with p (has (r .returned))) hw e i;
+  rows = (q ∙ ap (withRow (r .rows) p) (packed-is m (has m) hm (sym (kept-has m)))) i;
+}
+
+-- ---- asking
+
+abbrev pub askedOf : declared.Answer → Asked
+askedOf B.Last = A.Last
+askedOf B.NotLast = A.NotLast
+askedOf B.Open = A.Open
+
+asked-words : (a : R.Answer) → askedOf (answerOf a) ≡ askedAs a
+unfolding answerOf askedAs
+asked-words R.is-last = refl
+asked-words R.not-last = refl
+asked-words R.is-open = refl
+
+pub asked-on : (r : Recovery) (n : ℕ) → sizeOf r ≡ n → (i : ℕ) → i < n → (b : declared.Answer) → b ≡ answerOf (R.answer (r .kind) n (acceptedOf r) i) → askedOf b ≡ asked r i
+asked-on r n is i h b e = ap askedOf e ∙ asked-words (R.answer (r .kind) n (acceptedOf r) i) ∙ sym (asked-is r is i (R.answer (r .kind) n (acceptedOf r) i) h refl)
+
+-- ---- the sets and the number
+
+unmourned-inside : (n k : ℕ) (m b : Bool) → (ltb k n && not m) && not b ≡ (ltb k n && not m) && not (ltb k n && b)
+unmourned-inside n k m b = go (ltb k n)
+  where
+    go : (t : Bool) → (t && not m) && not b ≡ (t && not m) && not (t && b)
+    go true = refl
+    go false = refl
+
+pub absent-set : (r : Recovery) (u d : PlaceSet) → has u ≡ unmournedOf r → has d ≡ difference (has u) (has (r .returned)) → has d ≡ unmournedAbsentOf r
+unfolding unmournedOf unmournedAbsentOf R.unmournedAbsent R.unmourned acceptedOf acceptedIn sizeOf
+absent-set r u d e f =
+    f ∙ ap (λ (U : Places). difference U (has (r .returned))) e
+    ∙ fun-ext (λ k. unmourned-inside (size (r .count)) k (R.mourned (size (r .count)) (acceptedIn (r .count) (has (r .returned)) (r .rows)) k) (has (r .returned) k))
+
+pub count-set : (r : Recovery) (u : PlaceSet) (c : ℕ) → has u ≡ unmournedOf r → c ≡ count 128 (has u) → c ≡ unmournedCountOf r
+unfolding unmournedOf unmournedCountOf R.unmournedCount R.unmourned sizeOf
+count-set r u c e f =
+    f ∙ ap (count 128) e
+    ∙ count-within (size (r .count)) 128 (R.unmourned (size (r .count)) (acceptedOf r)) (size-at-most (r .count))
+    (λ k t. ltb-true k (size (r .count)) (and-left (ltb k (size (r .count))) (not (R.mourned (size (r .count)) (acceptedOf r) k)) t))

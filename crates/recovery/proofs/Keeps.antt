@@ -1,0 +1,134 @@
+-- Which records a recovery has accepted: a fresh one has none, and keeping a record lays it on the others. Assumes nothing.
+use mathlib.Core.Path.{_≡_, refl, sym, ap, _∙_}
+use mathlib.Core.Bool.{Bool, true, false, cond, _&&_, _||_, and-false}
+use mathlib.Core.List.{List}
+use Prim.Native.Nat.{ℕ, _-_, _<_, _≤_}
+use native.Mathlib.Omega.{arith}
+use lib.ListN.{length, replicate, length-append, length-replicate}
+use lib.Seq.{take-append-seam}
+use lib.Dec.{eqb, ltb, leb}
+use borrow.Author.Tests.{eqb-true, eqb-false, lt-ltb, le-leb, ltb-true, leb-true, ne-eqb}
+use Rattle.places.specs.Sets.{Places, nothing, with}
+use Rattle.places.specs.PlaceSets.{has, packed}
+use Rattle.places.specs.declared.PlaceSet.{PlaceSet}
+use Rattle.places.proofs.Booleans.{clash, and-left}
+use Rattle.places.proofs.Laws.{kept-all, kept-with, has-packed}
+use Rattle.histories.specs.declared.Kind.{Kind}
+use Rattle.histories.specs.Histories.{Row, none, lay}
+use Rattle.rows.specs.Rows.{noRows, rowsOf, withRow}
+use Rattle.rows.proofs.Laws.{rows-of, no-rows-length, rows-with, rows-other, with-length}
+use Rattle.answers.specs.Views.{size, acceptedIn}
+use Rattle.recovery.specs.declared.Recovery.{Recovery}
+use Rattle.recovery.specs.Contracts.{sizeOf, rosterOf, acceptedOf, fresh, keeping}
+
+-- ---- any recovery
+
+pub size-few : (r : Recovery) → sizeOf r ≤ 128
+unfolding sizeOf size
+size-few r = go (leb (r .count) 128) refl
+  where
+    go : (t : Bool) → leb (r .count) 128 ≡ t → cond t (r .count) 128 ≤ 128
+    go true e = leb-true (r .count) 128 e
+    go false e = omega arith
+
+-- a returned place is on the roster, and so is what stands in a row
+pub returned-on : (r : Recovery) (p : ℕ) → acceptedOf r .returned p ≡ true → p < sizeOf r
+unfolding acceptedOf acceptedIn sizeOf
+returned-on r p e = ltb-true p (size (r .count)) (and-left (ltb p (size (r .count))) (has (r .returned) p) e)
+
+pub row-on : (r : Recovery) (p q : ℕ) → acceptedOf r .row p q ≡ true → q < sizeOf r
+unfolding acceptedOf acceptedIn sizeOf
+row-on r p q e = ltb-true q (size (r .count)) (and-left (ltb q (size (r .count))) (rowsOf (r .rows) p q) e)
+
+-- ---- a fresh one
+
+module _ (k : Kind) (s : List ℕ) where
+  pub fresh-rows : length (fresh k s .rows) ≡ 256
+  unfolding fresh
+  fresh-rows = no-rows-length
+
+  -- nobody is back
+  pub fresh-accepted : acceptedOf (fresh k s) ≡ none
+  unfolding acceptedOf acceptedIn fresh
+  fresh-accepted = λ i. record { returned = λ p. no-returned p i; row = λ p q. no-row p q i }
+    where
+      n : ℕ
+      n = size (length s)
+
+      no-returned : (p : ℕ) → ltb p n && has (packed nothing) p ≡ false
+      no-returned p = ap (λ (S : Places). ltb p n && S p) (has-packed nothing) ∙ and-false (ltb p n)
+
+      no-row : (p q : ℕ) → ltb q n && rowsOf noRows p q ≡ false
+      no-row p q = ap (λ (S : Places). ltb q n && S q) (rows-of p) ∙ and-false (ltb q n)
+
+  module _ (few : length s ≤ 128) where
+    pub fresh-size : sizeOf (fresh k s) ≡ length s
+    unfolding sizeOf size fresh
+    fresh-size = rw (le-leb (length s) 128 few)
+
+    pub fresh-roster : rosterOf (fresh k s) ≡ s
+    unfolding rosterOf fresh
+    fresh-roster = rw fresh-size (take-append-seam s (replicate (128 - length s) 0))
+
+    pub fresh-serials : length (fresh k s .serials) ≡ 128
+    unfolding fresh
+    fresh-serials = length-append s (replicate (128 - length s) 0) ∙ omega (arith, length-replicate {0} {A = ℕ} (128 - length s) 0)
+
+-- ---- one that keeps a record
+
+module _ (n p : ℕ) (few : n ≤ 128) (on : p < n) where
+  kept-returned : (s : PlaceSet) (x : ℕ) → ltb x n && has (packed (with p (has s))) x ≡ (ltb x n && has s x) || eqb x p
+  kept-returned s x =
+      ap (λ (S : Places). ltb x n && S x) (has-packed (with p (has s)) ∙ kept-with s p (omega arith)) ∙ go (ltb x n) refl
+    where
+      go : (t : Bool) → ltb x n ≡ t → t && (has s x || eqb x p) ≡ (t && has s x) || eqb x p
+      go true e = refl
+      go false e = sym (ne-eqb x p (λ q. clash (lt-ltb x n (omega arith)) e))
+
+  module _ (M : Row) (M-on : (q : ℕ) → M q ≡ true → q < n) (rows : List ℕ) (all : length rows ≡ 256) where
+    kept-row : (x q : ℕ) → ltb q n && rowsOf (withRow rows p (packed M)) x q ≡ cond (eqb x p) M (λ q. ltb q n && rowsOf rows x q) q
+    kept-row x q = go (eqb x p) refl
+      where
+        new : ltb q n && has (packed M) q ≡ M q
+        new =
+            ap (λ (S : Places). ltb q n && S q) (has-packed M ∙ kept-all M (λ k e. omega (arith, M-on k e))) ∙ inside (M q) refl
+          where
+            inside : (t : Bool) → M q ≡ t → ltb q n && M q ≡ M q
+            inside true e = ap (λ (b : Bool). b && M q) (lt-ltb q n (M-on q e))
+            inside false e = ap (λ (b : Bool). ltb q n && b) e ∙ and-false (ltb q n) ∙ sym e
+
+        go : (t : Bool) → eqb x p ≡ t → ltb q n && rowsOf (withRow rows p (packed M)) x q ≡ cond t M (λ q. ltb q n && rowsOf rows x q) q
+        go true e =
+            ap (λ (y : ℕ). ltb q n && rowsOf (withRow rows p (packed M)) y q) (eqb-true x p e)
+            ∙ ap (λ (S : Places). ltb q n && S q) (rows-with rows p (packed M) all (omega arith)) ∙ new
+        go false e = ap (λ (S : Places). ltb q n && S q) (rows-other rows p x (packed M) (eqb-false x p e))
+
+module _ (r : Recovery) (p : ℕ) (M : Row) where
+  -- the record of p lies on the others, and its mourned set is M
+  pub kept-accepted : length (r .rows) ≡ 256 → p < sizeOf r → ((q : ℕ) → M q ≡ true → q < sizeOf r) → acceptedOf (keeping r p M) ≡ lay (acceptedOf r) p M
+  unfolding acceptedOf acceptedIn keeping sizeOf
+  kept-accepted all on M-on = λ i. record {
+    returned = λ x. kept-returned (sizeOf r) p (size-few r) on (r .returned) x i;
+    row = λ x q. kept-row (sizeOf r) p (size-few r) on M M-on (r .rows) all x q i;
+  }
+
+  -- all else is as it was
+  pub kept-kind : keeping r p M .kind ≡ r .kind
+  unfolding keeping
+  kept-kind = refl
+
+  pub kept-size : sizeOf (keeping r p M) ≡ sizeOf r
+  unfolding sizeOf keeping
+  kept-size = refl
+
+  pub kept-roster : rosterOf (keeping r p M) ≡ rosterOf r
+  unfolding rosterOf sizeOf keeping
+  kept-roster = refl
+
+  pub kept-serials : length (keeping r p M .serials) ≡ length (r .serials)
+  unfolding keeping
+  kept-serials = refl
+
+  pub kept-rows : length (keeping r p M .rows) ≡ length (r .rows)
+  unfolding keeping
+  kept-rows = with-length (r .rows) p (packed M)

@@ -1,0 +1,13 @@
+-- `Demand` has demand 3 and the invariant, `Single` that one outcome is dictated, `Trips` what is read, written, shown and checked;
+-- `Listing` computes document 01's example, and `Refuses` shows that nothing else is dictated there. `Calls` has a law for each
+-- case of each call. The rest serves these.
+pub mod Listing
+pub mod Opens
+pub mod Keeps
+pub mod Facts
+pub mod Calls
+pub mod Demand
+pub mod Single
+pub mod Trips
+pub mod Refuses
+pub mod Gives

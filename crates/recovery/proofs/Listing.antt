@@ -1,0 +1,103 @@
+-- The example of document 01, call by call, each with the outcome that it computes to. Assumes nothing.
+use mathlib.Core.Path.{_≡_, refl}
+use mathlib.Core.List.{List, [], _∷_, _++_, map}
+use Prim.Native.Nat.{ℕ}
+use lib.ListN.{replicate}
+use Rattle.places.specs.Sets.{any, all, subset, same, count, lowest}
+use Rattle.places.specs.PlaceSets.{bit, has, word, packed, found}
+use Rattle.histories.specs.Rule as H
+use Rattle.rosters.specs.Rosters.{placeOf, holds, firstRepeat, listed}
+use Rattle.rows.specs.Rows.{noRows, rowAt, rowsOf, withRow, bytesFrom, rowBytes, rowIn, historyIn, rowsFrom, laid}
+use Rattle.records.specs.Layout as L
+use Rattle.records.specs.Records.{sameList, unwritten, putAt, writtenAt}
+use Rattle.answers.specs.Views.{size, acceptedIn}
+use Rattle.checks.specs.Checks.{offRoster}
+use Rattle.recovery.specs.Contracts as C
+use Rattle.recovery.specs.Demand.{Call, offer, ask, show, check, whole, unmourned-count, find, write, Outcome, says, lent, lent-one, number, opened, taken, repeated, is-last, not-last, is-open, decided, shown, fits, fits-not, unsettled, not-found, ends, refused}
+use Rattle.recovery.specs.Run as U
+
+unfoldable pub serials : List ℕ
+serials = 101 ∷ 102 ∷ 103 ∷ 104 ∷ []
+
+-- the roster in bytes: its count, then each serial
+unfoldable pub group : List ℕ
+group = 4 ∷ 0 ∷ 0 ∷ 0 ∷ 101 ∷ 0 ∷ 0 ∷ 0 ∷ 102 ∷ 0 ∷ 0 ∷ 0 ∷ 103 ∷ 0 ∷ 0 ∷ 0 ∷ 104 ∷ []
+
+-- 101 mourns nobody, 104 mourns 102 and 103
+unfoldable pub record-101 : List ℕ
+record-101 = (2 ∷ 0 ∷ 0 ∷ 0 ∷ 101 ∷ []) ++ group ++ (0 ∷ [])
+
+unfoldable pub record-104 : List ℕ
+record-104 = (2 ∷ 0 ∷ 0 ∷ 0 ∷ 104 ∷ []) ++ group ++ (2 ∷ 0 ∷ 0 ∷ 0 ∷ 102 ∷ 0 ∷ 0 ∷ 0 ∷ 103 ∷ [])
+
+-- others: of the full kind, 101 mourning 102, and 102 mourning 104, which mourns it
+unfoldable pub full-101 : List ℕ
+full-101 = (1 ∷ 0 ∷ 0 ∷ 0 ∷ 101 ∷ []) ++ group ++ (0 ∷ [])
+
+unfoldable pub other-101 : List ℕ
+other-101 = (2 ∷ 0 ∷ 0 ∷ 0 ∷ 101 ∷ []) ++ group ++ (1 ∷ 0 ∷ 0 ∷ 0 ∷ 102 ∷ [])
+
+unfoldable pub circle-102 : List ℕ
+circle-102 = (2 ∷ 0 ∷ 0 ∷ 0 ∷ 102 ∷ []) ++ group ++ (1 ∷ 0 ∷ 0 ∷ 0 ∷ 104 ∷ [])
+
+-- a row by its first byte
+unfoldable pub row : ℕ → List ℕ
+row b = b ∷ replicate 15 0
+
+-- the recorded rows, and the same with place 0 in the row of place 1
+unfoldable pub first-rows : List ℕ
+first-rows = row 0 ++ row 0 ++ row 0 ++ row 6
+
+unfoldable pub second-rows : List ℕ
+second-rows = row 0 ++ row 1 ++ row 0 ++ row 6
+
+-- a call, and what it gives
+infix 60 _▸_
+pub data Line : Type 0 where
+  _▸_ : Call → Outcome → Line
+
+unfoldable pub callOf : Line → Call
+callOf (c ▸ o) = c
+
+unfoldable pub outcomeOf : Line → Outcome
+outcomeOf (c ▸ o) = o
+
+unfoldable pub lines : List Line
+lines =
+    (offer record-101 ▸ says taken)
+    ∷ (offer record-104 ▸ says taken)
+    ∷ (ask 0 ▸ says is-open)
+    ∷ (ask 1 ▸ says not-last)
+    ∷ (ask 2 ▸ says not-last)
+    ∷ (ask 3 ▸ says is-last)
+    ∷ (ask 4 ▸ says (refused 12))
+    ∷ (whole ▸ says unsettled)
+    ∷ (unmourned-count ▸ number 2)
+    ∷ (find 103 ▸ number 2)
+    ∷ (find 105 ▸ says not-found)
+    ∷ (offer record-101 ▸ says repeated)
+    ∷ (offer (record-101 ++ (7 ∷ [])) ▸ says (refused 8))
+    ∷ (offer full-101 ▸ says (refused 9))
+    ∷ (offer other-101 ▸ says (refused 10))
+    ∷ (offer circle-102 ▸ says (refused 11))
+    ∷ (show 4 [] [] ▸ lent (refused 12) [] [])
+    ∷ (show 3 [] [] ▸ lent decided [] [])
+    ∷ (show 0 (replicate 63 9) (replicate 65 9) ▸ lent (refused 13) (replicate 63 9) (replicate 65 9))
+    ∷ (show 0 (replicate 65 9) (replicate 64 9) ▸ lent shown (first-rows ++ (9 ∷ [])) second-rows)
+    ∷ (check (replicate 63 0) ▸ says (refused 13))
+    ∷ (check (row 16 ++ row 0 ++ row 0 ++ row 6) ▸ says (refused 15))
+    ∷ (check second-rows ▸ says fits)
+    ∷ (check (row 0 ++ row 0 ++ row 0 ++ row 0) ▸ says fits-not)
+    ∷ (write 4 [] 0 ▸ lent-one (refused 12) [])
+    ∷ (write 1 [] 0 ▸ lent-one (refused 14) [])
+    ∷ (write 3 (replicate 31 9) 1 ▸ lent-one (refused 13) (replicate 31 9))
+    ∷ (write 3 (replicate 33 9) 1 ▸ lent-one (ends 32) ((9 ∷ []) ++ record-104 ++ (9 ∷ [])))
+    ∷ []
+
+pub opening : U.openingSays (C.opened 2 serials .answer) ≡ opened
+unfolding serials U.openingSays C.opened C.openedAs listed placeOf holds firstRepeat L.knownKind
+opening = refl
+
+pub listing : U.run (C.opened 2 serials .recovery) (map callOf lines) ≡ map outcomeOf lines
+unfolding serials group record-101 record-104 full-101 other-101 circle-102 row first-rows second-rows callOf outcomeOf lines U.run U.next U.outcome U.offerSays U.askedSays U.showingSays U.checkedSays U.writingSays U.foundGives U.shownGives U.writtenGives C.sizeOf C.rosterOf C.acceptedOf C.fresh C.openedAs C.opened C.sameKind C.ofGroup C.saying C.keeping C.again C.newly C.entered C.judged C.offeredAs C.offered C.answerAt C.askedAs C.asked C.unshown C.shownOpen C.shownAs C.shown offRoster C.checkedRows C.checked C.settledOf C.unmournedCountOf C.foundIn C.recordOf C.writtenOf size acceptedIn L.then L.check L.byte L.serial L.knownKind L.kindOf L.kindSection L.rosterSerials L.rosterSection L.headSection L.mournedSerials L.mournedSection L.stored L.lone L.kindByte L.serialBytes L.serialsBytes L.chosen L.layout sameList unwritten putAt writtenAt placeOf holds firstRepeat listed noRows rowAt rowsOf withRow bytesFrom rowBytes rowIn historyIn rowsFrom laid bit has word packed found any all subset same count lowest H.recorded H.mourned H.reach H.before H.ruledOut H.blockers H.answer H.openAnswer H.settled H.unmourned H.unmournedCount H.inherited H.grown H.second H.agrees H.accepts H.closedRows H.fitsTest
+listing = refl

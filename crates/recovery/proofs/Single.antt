@@ -1,0 +1,296 @@
+-- One outcome is dictated to a call, but for the rows of two shown histories, and one set of records after it. Assumes nothing.
+use mathlib.Core.Path.{_≡_, refl, sym, ap, ap₂, _∙_, subst, fun-ext}
+use mathlib.Core.Bool.{Bool, true, false, cond}
+use mathlib.Core.Logic.{_⊎_, inl, inr, _↔_}
+use mathlib.Core.List.{List, [], _∷_, _++_, map}
+use Prim.Native.Nat.{ℕ, _+_, _*_, _<_, _≤_}
+use native.Mathlib.Omega.{arith}
+use native.Mathlib.Decide.{decLt}
+use lib.ListN.{length, getD, take, drop, take-append-drop}
+use Rattle.places.specs.Sets.{count}
+use Rattle.places.proofs.Booleans.{clash, both-ways}
+use Rattle.histories.specs.declared.Kind.{Kind}
+use Rattle.histories.specs.Histories.{Row, History, Accepted, none, lay, Fits, Disagree, Decided}
+use Rattle.histories.proofs.Exact.{all-none, all-open, none-open}
+use Rattle.histories.proofs.Demand.{none-fitted}
+use Rattle.rosters.specs.Rosters.{IsRoster}
+use Rattle.records.specs.Layout.{Parsed, got, Stored, stored, lone, layout}
+use Rattle.records.specs.Layout as L
+use Rattle.records.proofs.Layouts.{AllBytes, bytes-drop}
+use Rattle.records.proofs.Trips.{layout-read}
+use Rattle.recovery.specs.Demand as D
+use Rattle.recovery.specs.Demand.{Said, refused, Call, Outcome, says, lent, lent-one, places, number, OfGroup, Unmourned, recordIn, endIn, Dictates, faulty, foreign, repeats, differs, takes, none-fits, asked-off, asked-last, asked-not, asked-open, showed-off, showed-decided, showed-short, showed, checked-short, checked-off, checked-fits, checked-not, whole-settled, whole-open, gave-unmourned, gave-absent, gave-count, found-at, found-none, wrote-off, wrote-absent, wrote-short, wrote, Whole, end, then}
+
+-- ---- outcomes
+
+unfoldable pub showing : Said → Bool
+showing D.opened = false
+showing D.taken = false
+showing D.repeated = false
+showing D.is-last = false
+showing D.not-last = false
+showing D.is-open = false
+showing D.decided = false
+showing D.shown = true
+showing D.fits = false
+showing D.fits-not = false
+showing D.settled = false
+showing D.unsettled = false
+showing D.not-found = false
+showing (D.ends e) = false
+showing (refused j) = false
+
+-- forgets the rows of two histories that are shown, for a roster of n, and nothing else
+unfoldable pub plain : ℕ → Outcome → Outcome
+plain n (says s) = says s
+plain n (lent s a b) = cond (showing s) (lent s (drop (16 * n) a) (drop (16 * n) b)) (lent s a b)
+plain n (lent-one s b) = lent-one s b
+plain n (places S) = places S
+plain n (number m) = number m
+
+-- lent buffers are bytes
+abbrev pub InBytes : Outcome → Type 0
+InBytes (says s) = Unit {0}
+InBytes (lent s a b) = AllBytes a × AllBytes b
+InBytes (lent-one s b) = AllBytes b
+InBytes (places S) = Unit {0}
+InBytes (number m) = Unit {0}
+
+abbrev pub AllInBytes : List Outcome → Type 0
+AllInBytes [] = Unit {0}
+AllInBytes (o ∷ os) = InBytes o × AllInBytes os
+
+-- ---- what cannot be both
+
+off : {X : Type 0} {m i : ℕ} → m ≤ i → i < m → X
+off x y = absurd (omega arith)
+
+room : {X : Type 0} {m a b : ℕ} → (a < m) ⊎ (b < m) → m ≤ a → m ≤ b → X
+room (inl s) x y = absurd (omega arith)
+room (inr s) x y = absurd (omega arith)
+
+dec-open : {k : Kind} {n : ℕ} {A : Accepted} {i : ℕ} {F G : History} {X : Type 0} → Decided k n A i → Disagree k n A i F G → X
+dec-open (inl a) d = all-open a d
+dec-open (inr z) d = none-open z d
+
+-- ---- the same bytes read twice
+
+same-fault : {p : Parsed Stored} {i j : ℕ} → p ≡ L.refused i → p ≡ L.refused j → i ≡ j
+same-fault e h = cc
+
+read-clash : {X : Type 0} {p : Parsed Stored} {rest : List ℕ} {j : ℕ} {x : Stored} → p ≡ L.refused j → p ≡ got x rest → X
+read-clash e h = let z : _≡_ {A = ℕ} 0 1 = cc in absurd (omega arith)
+
+same-record : {p : Parsed Stored} {u v : List ℕ} {x y : Stored} → p ≡ got x u → p ≡ got y v → x ≡ y
+same-record e h = cc
+
+module _ {k : Kind} {roster : List ℕ} {bytes : List ℕ} where
+  group-clash : {X : Type 0} {rest : List ℕ} {x y : Stored} → lone bytes ≡ got x rest → ¬ ((x .kind ≡ k) × (x .roster ≡ roster)) → OfGroup k roster bytes y → X
+  group-clash e z s =
+      absurd (z (subst (λ (x : Stored). (x .kind ≡ k) × (x .roster ≡ roster)) (same-record (s .reads) e) (s .same-kind, s .same-roster)))
+
+  module _ (A : Accepted) {x y : Stored} (s : OfGroup k roster bytes x) (t : OfGroup k roster bytes y) where
+    move-back : A .returned (x .own) ≡ true → A .returned (y .own) ≡ true
+    move-back = subst (λ (x : Stored). A .returned (x .own) ≡ true) (same-record (s .reads) (t .reads))
+
+    move-row : x .mourned ≡ A .row (x .own) → y .mourned ≡ A .row (y .own)
+    move-row = subst (λ (x : Stored). x .mourned ≡ A .row (x .own)) (same-record (s .reads) (t .reads))
+
+    move-fits : {G : History} → Fits k (length roster) (lay A (x .own) (x .mourned)) G → Fits k (length roster) (lay A (y .own) (y .mourned)) G
+    move-fits {G} = subst (λ (x : Stored). Fits k (length roster) (lay A (x .own) (x .mourned)) G) (same-record (s .reads) (t .reads))
+
+    same-lay : lay A (x .own) (x .mourned) ≡ lay A (y .own) (y .mourned)
+    same-lay = ap (λ (x : Stored). lay A (x .own) (x .mourned)) (same-record (s .reads) (t .reads))
+
+-- ---- the same set, place and buffer
+
+same-unmourned : {n : ℕ} {A : Accepted} {S U : Row} → Unmourned n A S → Unmourned n A U → S ≡ U
+same-unmourned {S = S} {U = U} u v = fun-ext (λ q. both-ways (S q) (U q) (λ e. v q .1 (u q .0 e)) (λ e. u q .1 (v q .0 e)))
+
+same-absent : {n : ℕ} {A : Accepted} {S T U W : Row} → Unmourned n A U → Unmourned n A W
+    → ((q : ℕ) → (S q ≡ true) ↔ ((U q ≡ true) × (A .returned q ≡ false))) → ((q : ℕ) → (T q ≡ true) ↔ ((W q ≡ true) × (A .returned q ≡ false))) → S ≡ T
+same-absent {S = S} {T = T} u v a b =
+    fun-ext (λ q. both-ways (S q) (T q) (λ e. let w = a q .0 e in b q .1 (v q .1 (u q .0 (w .0)), w .1)) (λ e. let w = b q .0 e in a q .1 (u q .1 (v q .0 (w .0)), w .1)))
+
+same-place : {s : List ℕ} → IsRoster s → {p q : ℕ} → p < length s → q < length s → getD s p 0 ≡ getD s q 0 → p ≡ q
+same-place r {p} {q} l m e = go (decLt p q) (decLt q p)
+  where
+    go : Dec (p < q) → Dec (q < p) → p ≡ q
+    go (yes h) d = absurd (r .no-repeat p q h m e)
+    go (no h) (yes k) = absurd (r .no-repeat q p k l (sym e))
+    go (no h) (no k) = omega arith
+
+-- a buffer of bytes from which the record is read
+written-is : (x : Stored) (at : ℕ) (out new : List ℕ) → AllBytes new → take at new ≡ take at out → drop (at + length (layout x)) new ≡ drop (at + length (layout x)) out
+    → stored (drop at new) ≡ got x (drop (at + length (layout x)) new) → new ≡ take at out ++ (layout x ++ drop (at + length (layout x)) out)
+written-is x at out new h t d e =
+    sym (take-append-drop at new) ∙ ap₂ (λ (a b : List ℕ). a ++ b) t (layout-read (drop at new) x (drop (at + length (layout x)) new) (bytes-drop at new h) e ∙ ap (λ (b : List ℕ). layout x ++ b) d)
+
+-- ---- the theorem
+
+pub single : {k : Kind} {roster : List ℕ} {A : Accepted} {H : History} → Fits k (length roster) A H → IsRoster roster
+    → {c : Call} {o₁ o₂ : Outcome} {B₁ B₂ : Accepted} → Dictates k roster A c o₁ B₁ → Dictates k roster A c o₂ B₂ → InBytes o₁ → InBytes o₂
+    → (plain (length roster) o₁ ≡ plain (length roster) o₂) × (B₁ ≡ B₂)
+unfolding plain showing
+single f s (faulty e₁ l₁ m₁) (faulty e₂ l₂ m₂) c₁ c₂ = (ap (λ (j : ℕ). says (refused j)) (same-fault e₁ e₂), refl)
+single f s (faulty e₁ l₁ m₁) (foreign e₂ z₂) c₁ c₂ = read-clash e₁ e₂
+single f s (faulty e₁ l₁ m₁) (repeats s₂ b₂ q₂) c₁ c₂ = read-clash e₁ (s₂ .reads)
+single f s (faulty e₁ l₁ m₁) (differs s₂ b₂ q₂) c₁ c₂ = read-clash e₁ (s₂ .reads)
+single f s (faulty e₁ l₁ m₁) (takes s₂ b₂ f₂) c₁ c₂ = read-clash e₁ (s₂ .reads)
+single f s (faulty e₁ l₁ m₁) (none-fits s₂ b₂ z₂) c₁ c₂ = read-clash e₁ (s₂ .reads)
+single f s (foreign e₁ z₁) (faulty e₂ l₂ m₂) c₁ c₂ = read-clash e₂ e₁
+single f s (foreign e₁ z₁) (foreign e₂ z₂) c₁ c₂ = (refl, refl)
+single f s (foreign e₁ z₁) (repeats s₂ b₂ q₂) c₁ c₂ = group-clash e₁ z₁ s₂
+single f s (foreign e₁ z₁) (differs s₂ b₂ q₂) c₁ c₂ = group-clash e₁ z₁ s₂
+single f s (foreign e₁ z₁) (takes s₂ b₂ f₂) c₁ c₂ = group-clash e₁ z₁ s₂
+single f s (foreign e₁ z₁) (none-fits s₂ b₂ z₂) c₁ c₂ = group-clash e₁ z₁ s₂
+single f s (repeats s₁ b₁ q₁) (faulty e₂ l₂ m₂) c₁ c₂ = read-clash e₂ (s₁ .reads)
+single f s (repeats s₁ b₁ q₁) (foreign e₂ z₂) c₁ c₂ = group-clash e₂ z₂ s₁
+single f s (repeats s₁ b₁ q₁) (repeats s₂ b₂ q₂) c₁ c₂ = (refl, refl)
+single {A = A} f s (repeats s₁ b₁ q₁) (differs s₂ b₂ q₂) c₁ c₂ = absurd (q₂ (move-row A s₁ s₂ q₁))
+single {A = A} f s (repeats s₁ b₁ q₁) (takes s₂ b₂ f₂) c₁ c₂ = clash (move-back A s₁ s₂ b₁) b₂
+single {A = A} f s (repeats s₁ b₁ q₁) (none-fits s₂ b₂ z₂) c₁ c₂ = clash (move-back A s₁ s₂ b₁) b₂
+single f s (differs s₁ b₁ q₁) (faulty e₂ l₂ m₂) c₁ c₂ = read-clash e₂ (s₁ .reads)
+single f s (differs s₁ b₁ q₁) (foreign e₂ z₂) c₁ c₂ = group-clash e₂ z₂ s₁
+single {A = A} f s (differs s₁ b₁ q₁) (repeats s₂ b₂ q₂) c₁ c₂ = absurd (q₁ (move-row A s₂ s₁ q₂))
+single f s (differs s₁ b₁ q₁) (differs s₂ b₂ q₂) c₁ c₂ = (refl, refl)
+single {A = A} f s (differs s₁ b₁ q₁) (takes s₂ b₂ f₂) c₁ c₂ = clash (move-back A s₁ s₂ b₁) b₂
+single {A = A} f s (differs s₁ b₁ q₁) (none-fits s₂ b₂ z₂) c₁ c₂ = clash (move-back A s₁ s₂ b₁) b₂
+single f s (takes s₁ b₁ f₁) (faulty e₂ l₂ m₂) c₁ c₂ = read-clash e₂ (s₁ .reads)
+single f s (takes s₁ b₁ f₁) (foreign e₂ z₂) c₁ c₂ = group-clash e₂ z₂ s₁
+single {A = A} f s (takes s₁ b₁ f₁) (repeats s₂ b₂ q₂) c₁ c₂ = clash (move-back A s₂ s₁ b₂) b₁
+single {A = A} f s (takes s₁ b₁ f₁) (differs s₂ b₂ q₂) c₁ c₂ = clash (move-back A s₂ s₁ b₂) b₁
+single {A = A} f s (takes s₁ b₁ f₁) (takes s₂ b₂ f₂) c₁ c₂ = (refl, same-lay A s₁ s₂)
+single {A = A} f s (takes s₁ b₁ f₁) (none-fits s₂ b₂ z₂) c₁ c₂ = absurd (z₂ _ (move-fits A s₁ s₂ f₁))
+single f s (none-fits s₁ b₁ z₁) (faulty e₂ l₂ m₂) c₁ c₂ = read-clash e₂ (s₁ .reads)
+single f s (none-fits s₁ b₁ z₁) (foreign e₂ z₂) c₁ c₂ = group-clash e₂ z₂ s₁
+single {A = A} f s (none-fits s₁ b₁ z₁) (repeats s₂ b₂ q₂) c₁ c₂ = clash (move-back A s₂ s₁ b₂) b₁
+single {A = A} f s (none-fits s₁ b₁ z₁) (differs s₂ b₂ q₂) c₁ c₂ = clash (move-back A s₂ s₁ b₂) b₁
+single {A = A} f s (none-fits s₁ b₁ z₁) (takes s₂ b₂ f₂) c₁ c₂ = absurd (z₁ _ (move-fits A s₂ s₁ f₂))
+single f s (none-fits s₁ b₁ z₁) (none-fits s₂ b₂ z₂) c₁ c₂ = (refl, refl)
+single f s (asked-off x₁) (asked-off x₂) c₁ c₂ = (refl, refl)
+single f s (asked-off x₁) (asked-last x₂ a₂) c₁ c₂ = off x₁ x₂
+single f s (asked-off x₁) (asked-not x₂ n₂) c₁ c₂ = off x₁ x₂
+single f s (asked-off x₁) (asked-open x₂ d₂) c₁ c₂ = off x₁ x₂
+single f s (asked-last x₁ a₁) (asked-off x₂) c₁ c₂ = off x₂ x₁
+single f s (asked-last x₁ a₁) (asked-last x₂ a₂) c₁ c₂ = (refl, refl)
+single f s (asked-last x₁ a₁) (asked-not x₂ n₂) c₁ c₂ = all-none f a₁ n₂
+single f s (asked-last x₁ a₁) (asked-open x₂ d₂) c₁ c₂ = all-open a₁ d₂
+single f s (asked-not x₁ n₁) (asked-off x₂) c₁ c₂ = off x₂ x₁
+single f s (asked-not x₁ n₁) (asked-last x₂ a₂) c₁ c₂ = all-none f a₂ n₁
+single f s (asked-not x₁ n₁) (asked-not x₂ n₂) c₁ c₂ = (refl, refl)
+single f s (asked-not x₁ n₁) (asked-open x₂ d₂) c₁ c₂ = none-open n₁ d₂
+single f s (asked-open x₁ d₁) (asked-off x₂) c₁ c₂ = off x₂ x₁
+single f s (asked-open x₁ d₁) (asked-last x₂ a₂) c₁ c₂ = all-open a₂ d₁
+single f s (asked-open x₁ d₁) (asked-not x₂ n₂) c₁ c₂ = none-open n₂ d₁
+single f s (asked-open x₁ d₁) (asked-open x₂ d₂) c₁ c₂ = (refl, refl)
+single f s (showed-off x₁) (showed-off x₂) c₁ c₂ = (refl, refl)
+single f s (showed-off x₁) (showed-decided x₂ w₂) c₁ c₂ = off x₁ x₂
+single f s (showed-off x₁) (showed-short x₂ d₂ s₂) c₁ c₂ = off x₁ x₂
+single f s (showed-off x₁) (showed x₂ u₂ v₂ d₂ y₂ k₂) c₁ c₂ = off x₁ x₂
+single f s (showed-decided x₁ w₁) (showed-off x₂) c₁ c₂ = off x₂ x₁
+single f s (showed-decided x₁ w₁) (showed-decided x₂ w₂) c₁ c₂ = (refl, refl)
+single f s (showed-decided x₁ w₁) (showed-short x₂ d₂ s₂) c₁ c₂ = dec-open w₁ d₂
+single f s (showed-decided x₁ w₁) (showed x₂ u₂ v₂ d₂ y₂ k₂) c₁ c₂ = dec-open w₁ d₂
+single f s (showed-short x₁ d₁ s₁) (showed-off x₂) c₁ c₂ = off x₂ x₁
+single f s (showed-short x₁ d₁ s₁) (showed-decided x₂ w₂) c₁ c₂ = dec-open w₂ d₁
+single f s (showed-short x₁ d₁ s₁) (showed-short x₂ d₂ s₂) c₁ c₂ = (refl, refl)
+single f s (showed-short x₁ d₁ s₁) (showed x₂ u₂ v₂ d₂ y₂ k₂) c₁ c₂ = room s₁ u₂ v₂
+single f s (showed x₁ u₁ v₁ d₁ y₁ k₁) (showed-off x₂) c₁ c₂ = off x₂ x₁
+single f s (showed x₁ u₁ v₁ d₁ y₁ k₁) (showed-decided x₂ w₂) c₁ c₂ = dec-open w₂ d₁
+single f s (showed x₁ u₁ v₁ d₁ y₁ k₁) (showed-short x₂ d₂ s₂) c₁ c₂ = room s₂ u₁ v₁
+single f s (showed x₁ u₁ v₁ d₁ y₁ k₁) (showed x₂ u₂ v₂ d₂ y₂ k₂) c₁ c₂ =
+    (ap₂ (λ (a b : List ℕ). lent D.shown a b) (y₁ .same-rest ∙ sym (y₂ .same-rest)) (k₁ .same-rest ∙ sym (k₂ .same-rest)), refl)
+single f s (checked-short s₁) (checked-short s₂) c₁ c₂ = (refl, refl)
+single f s (checked-short s₁) (checked-off p₂ q₂ l₂ t₂ h₂) c₁ c₂ = off l₂ s₁
+single f s (checked-short s₁) (checked-fits l₂ f₂) c₁ c₂ = off l₂ s₁
+single f s (checked-short s₁) (checked-not l₂ i₂ z₂) c₁ c₂ = off l₂ s₁
+single f s (checked-off p₁ q₁ l₁ t₁ h₁) (checked-short s₂) c₁ c₂ = off l₁ s₂
+single f s (checked-off p₁ q₁ l₁ t₁ h₁) (checked-off p₂ q₂ l₂ t₂ h₂) c₁ c₂ = (refl, refl)
+single f s (checked-off p₁ q₁ l₁ t₁ h₁) (checked-fits l₂ f₂) c₁ c₂ = off h₁ (f₂ .history .inside p₁ q₁ t₁ .1)
+single f s (checked-off p₁ q₁ l₁ t₁ h₁) (checked-not l₂ i₂ z₂) c₁ c₂ = off h₁ (i₂ p₁ q₁ t₁)
+single f s (checked-fits l₁ f₁) (checked-short s₂) c₁ c₂ = off l₁ s₂
+single f s (checked-fits l₁ f₁) (checked-off p₂ q₂ l₂ t₂ h₂) c₁ c₂ = off h₂ (f₁ .history .inside p₂ q₂ t₂ .1)
+single f s (checked-fits l₁ f₁) (checked-fits l₂ f₂) c₁ c₂ = (refl, refl)
+single f s (checked-fits l₁ f₁) (checked-not l₂ i₂ z₂) c₁ c₂ = absurd (z₂ f₁)
+single f s (checked-not l₁ i₁ z₁) (checked-short s₂) c₁ c₂ = off l₁ s₂
+single f s (checked-not l₁ i₁ z₁) (checked-off p₂ q₂ l₂ t₂ h₂) c₁ c₂ = off h₂ (i₁ p₂ q₂ t₂)
+single f s (checked-not l₁ i₁ z₁) (checked-fits l₂ f₂) c₁ c₂ = absurd (z₁ f₂)
+single f s (checked-not l₁ i₁ z₁) (checked-not l₂ i₂ z₂) c₁ c₂ = (refl, refl)
+single f s (whole-settled a₁) (whole-settled a₂) c₁ c₂ = (refl, refl)
+single f s (whole-settled a₁) (whole-open {i = i} x₂ d₂) c₁ c₂ = dec-open (a₁ i x₂) d₂
+single f s (whole-open {i = i} x₁ d₁) (whole-settled a₂) c₁ c₂ = dec-open (a₂ i x₁) d₁
+single f s (whole-open x₁ d₁) (whole-open x₂ d₂) c₁ c₂ = (refl, refl)
+single f s (gave-unmourned u₁) (gave-unmourned u₂) c₁ c₂ = (ap places (same-unmourned u₁ u₂), refl)
+single f s (gave-absent u₁ a₁) (gave-absent u₂ a₂) c₁ c₂ = (ap places (same-absent u₁ u₂ a₁ a₂), refl)
+single {roster = roster} f s (gave-count u₁) (gave-count u₂) c₁ c₂ = (ap (λ (S : Row). number (count (length roster) S)) (same-unmourned u₁ u₂), refl)
+single f s (found-at l₁ e₁) (found-at l₂ e₂) c₁ c₂ = (ap number (same-place s l₁ l₂ (e₁ ∙ sym e₂)), refl)
+single f s (found-at {p = p} l₁ e₁) (found-none z₂) c₁ c₂ = absurd (z₂ p l₁ e₁)
+single f s (found-none z₁) (found-at {p = p} l₂ e₂) c₁ c₂ = absurd (z₁ p l₂ e₂)
+single f s (found-none z₁) (found-none z₂) c₁ c₂ = (refl, refl)
+single f s (wrote-off x₁) (wrote-off x₂) c₁ c₂ = (refl, refl)
+single f s (wrote-off x₁) (wrote-absent x₂ b₂) c₁ c₂ = off x₁ x₂
+single f s (wrote-off x₁) (wrote-short x₂ b₂ s₂) c₁ c₂ = off x₁ x₂
+single f s (wrote-off x₁) (wrote x₂ b₂ u₂ n₂ t₂ d₂ y₂) c₁ c₂ = off x₁ x₂
+single f s (wrote-absent x₁ b₁) (wrote-off x₂) c₁ c₂ = off x₂ x₁
+single f s (wrote-absent x₁ b₁) (wrote-absent x₂ b₂) c₁ c₂ = (refl, refl)
+single f s (wrote-absent x₁ b₁) (wrote-short x₂ b₂ s₂) c₁ c₂ = clash b₂ b₁
+single f s (wrote-absent x₁ b₁) (wrote x₂ b₂ u₂ n₂ t₂ d₂ y₂) c₁ c₂ = clash b₂ b₁
+single f s (wrote-short x₁ b₁ s₁) (wrote-off x₂) c₁ c₂ = off x₂ x₁
+single f s (wrote-short x₁ b₁ s₁) (wrote-absent x₂ b₂) c₁ c₂ = clash b₁ b₂
+single f s (wrote-short x₁ b₁ s₁) (wrote-short x₂ b₂ s₂) c₁ c₂ = (refl, refl)
+single f s (wrote-short x₁ b₁ s₁) (wrote x₂ b₂ u₂ n₂ t₂ d₂ y₂) c₁ c₂ = off u₂ s₁
+single f s (wrote x₁ b₁ u₁ n₁ t₁ d₁ y₁) (wrote-off x₂) c₁ c₂ = off x₂ x₁
+single f s (wrote x₁ b₁ u₁ n₁ t₁ d₁ y₁) (wrote-absent x₂ b₂) c₁ c₂ = clash b₁ b₂
+single f s (wrote x₁ b₁ u₁ n₁ t₁ d₁ y₁) (wrote-short x₂ b₂ s₂) c₁ c₂ = off u₁ s₂
+single {k} {roster} {A} f s (wrote {p = p} {at = at} {out = out} {out′ = new₁} x₁ b₁ u₁ n₁ t₁ d₁ y₁) (wrote {out′ = new₂} x₂ b₂ u₂ n₂ t₂ d₂ y₂) c₁ c₂ =
+    let x : Stored = recordIn k roster A p in
+    (ap (lent-one (D.ends (endIn k roster A p at))) (written-is x at out new₁ c₁ t₁ d₁ y₁ ∙ sym (written-is x at out new₂ c₂ t₂ d₂ y₂)), refl)
+
+-- ---- a list of calls
+
+-- some history fits what is left
+left-fits : {k : Kind} {roster : List ℕ} {A B : Accepted} {H : History} → Fits k (length roster) A H → {c : Call} {o : Outcome} → Dictates k roster A c o B
+    → (G : History) × Fits k (length roster) B G
+left-fits {H = H} f (faulty a b d) = (H, f)
+left-fits {H = H} f (foreign a b) = (H, f)
+left-fits {H = H} f (repeats a b d) = (H, f)
+left-fits {H = H} f (differs a b d) = (H, f)
+left-fits f (takes {H = G} a b g) = (G, g)
+left-fits {H = H} f (none-fits a b d) = (H, f)
+left-fits {H = H} f (asked-off a) = (H, f)
+left-fits {H = H} f (asked-last a b) = (H, f)
+left-fits {H = H} f (asked-not a b) = (H, f)
+left-fits {H = H} f (asked-open a b) = (H, f)
+left-fits {H = H} f (showed-off a) = (H, f)
+left-fits {H = H} f (showed-decided a b) = (H, f)
+left-fits {H = H} f (showed-short a b d) = (H, f)
+left-fits {H = H} f (showed a b d e m n) = (H, f)
+left-fits {H = H} f (checked-short a) = (H, f)
+left-fits {H = H} f (checked-off a b d e m) = (H, f)
+left-fits {H = H} f (checked-fits a b) = (H, f)
+left-fits {H = H} f (checked-not a b d) = (H, f)
+left-fits {H = H} f (whole-settled a) = (H, f)
+left-fits {H = H} f (whole-open a b) = (H, f)
+left-fits {H = H} f (gave-unmourned a) = (H, f)
+left-fits {H = H} f (gave-absent a b) = (H, f)
+left-fits {H = H} f (gave-count a) = (H, f)
+left-fits {H = H} f (found-at a b) = (H, f)
+left-fits {H = H} f (found-none a) = (H, f)
+left-fits {H = H} f (wrote-off a) = (H, f)
+left-fits {H = H} f (wrote-absent a b) = (H, f)
+left-fits {H = H} f (wrote-short a b d) = (H, f)
+left-fits {H = H} f (wrote a b d e m n p) = (H, f)
+
+single-from : {k : Kind} {roster : List ℕ} {A : Accepted} {H : History} → Fits k (length roster) A H → IsRoster roster → {cs : List Call} {os₁ os₂ : List Outcome}
+    → Whole k roster A cs os₁ → Whole k roster A cs os₂ → AllInBytes os₁ → AllInBytes os₂ → map (plain (length roster)) os₁ ≡ map (plain (length roster)) os₂
+single-from f s end end c₁ c₂ = refl
+single-from {k} {roster} f s (then {cs = cs} d₁ w₁) (then {os = os} d₂ w₂) c₁ c₂ =
+    let e = single f s d₁ d₂ (c₁ .0) (c₂ .0) in
+    ap₂ (λ (o : Outcome) (os : List Outcome). o ∷ os) (e .0)
+    (single-from (left-fits f d₁ .1) s w₁ (subst (λ (B : Accepted). Whole k roster B cs os) (sym (e .1)) w₂) (c₁ .1) (c₂ .1))
+
+-- so a list of calls from the opening on has one list of outcomes
+pub single-whole : {k : Kind} {roster : List ℕ} → IsRoster roster → {cs : List Call} {os₁ os₂ : List Outcome}
+    → Whole k roster none cs os₁ → Whole k roster none cs os₂ → AllInBytes os₁ → AllInBytes os₂ → map (plain (length roster)) os₁ ≡ map (plain (length roster)) os₂
+single-whole {k} {roster} s = single-from (none-fitted k (length roster)) s

@@ -1,0 +1,234 @@
+-- Records and histories there and back, on any recovery that an opening and calls can reach. Assumes nothing.
+use mathlib.Core.Path.{_≡_, refl, sym, ap, _∙_, subst}
+use mathlib.Core.Bool.{Bool, true, cond}
+use mathlib.Core.List.{List, [], _∷_}
+use Prim.Native.Nat.{ℕ, _+_, _*_, _≤_}
+use native.Mathlib.Omega.{arith}
+use lib.ListN.{length, drop}
+use lib.Dec.{eqb}
+use borrow.Author.Tests.{ne-eqb}
+use Rattle.places.proofs.Booleans.{clash, or-left, or-right, eqb-self}
+use Rattle.histories.specs.declared.Kind.{Kind}
+use Rattle.histories.specs.Histories.{History, Accepted, lay, Fits, Disagree}
+use Rattle.rows.specs.Rows.{historyIn}
+use Rattle.records.specs.declared.Writing.the-variants as W
+use Rattle.records.specs.Layout.{Parsed, got, Stored, stored, lone, layout}
+use Rattle.records.specs.Records.{readingOf, reading, putAt, Written}
+use Rattle.records.proofs.Layouts.{AllBytes, IsStored, drop-put}
+use Rattle.records.proofs.Trips.{read-layout, lone-layout, read-back}
+use Rattle.recovery.specs.declared.Recovery.{Recovery}
+use Rattle.recovery.specs.declared.Reply.{Reply}
+use Rattle.recovery.specs.declared.Reply.the-variants as O
+use Rattle.recovery.specs.declared.Showing.{Showing}
+use Rattle.recovery.specs.declared.Showing.the-variants as S
+use Rattle.recovery.specs.declared.Checked.{Checked}
+use Rattle.recovery.specs.declared.Checked.the-variants as C
+use Rattle.recovery.specs.Contracts.{acceptedOf, opened, offered, shown, checked, recordOf, writtenOf}
+use Rattle.recovery.specs.Demand as D
+use Rattle.recovery.specs.Demand.{Free, Call, offer, show, check, Outcome, says, lent, OfGroup, Holds, recordIn, Dictates, faulty, foreign, repeats, differs, takes, none-fits, asked-off, asked-last, asked-not, asked-open, showed-off, showed-decided, showed-short, showed, checked-short, checked-off, checked-fits, checked-not, whole-settled, whole-open, gave-unmourned, gave-absent, gave-count, found-at, found-none, wrote-off, wrote-absent, wrote-short, wrote}
+use Rattle.recovery.specs.Run.{offerSays, showingSays, checkedSays, shownGives, outcome, next, left}
+use Rattle.recovery.proofs.Calls.{written-at}
+use Rattle.recovery.proofs.Keeps.{returned-on}
+use Rattle.recovery.proofs.Demand.{Good, own, record-is, record-stored, step, good-next, good-after, good-left}
+use Rattle.recovery.proofs.Single.{plain, single}
+
+-- what opening and some calls give
+abbrev pub reached : ℕ → List ℕ → List Call → Recovery
+reached kind roster cs = left (opened kind roster .recovery) cs
+
+-- ---- an accepted record stays
+
+stays : {k : Kind} {roster : List ℕ} {A B : Accepted} {c : Call} {o : Outcome} → Dictates k roster A c o B → (p : ℕ) → A .returned p ≡ true → (B .returned p ≡ true) × (B .row p ≡ A .row p)
+stays {A = A} (takes {x = x} s b f) p e = (or-left (eqb p (x .own)) e, ap (λ (t : Bool). cond t (x .mourned) (A .row p)) (ne-eqb p (x .own) (λ q. clash e (rw q b))))
+stays (faulty a b d) p e = (e, refl)
+stays (foreign a b) p e = (e, refl)
+stays (repeats a b d) p e = (e, refl)
+stays (differs a b d) p e = (e, refl)
+stays (none-fits a b d) p e = (e, refl)
+stays (asked-off a) p e = (e, refl)
+stays (asked-last a b) p e = (e, refl)
+stays (asked-not a b) p e = (e, refl)
+stays (asked-open a b) p e = (e, refl)
+stays (showed-off a) p e = (e, refl)
+stays (showed-decided a b) p e = (e, refl)
+stays (showed-short a b d) p e = (e, refl)
+stays (showed a b d f m n) p e = (e, refl)
+stays (checked-short a) p e = (e, refl)
+stays (checked-off a b d f m) p e = (e, refl)
+stays (checked-fits a b) p e = (e, refl)
+stays (checked-not a b d) p e = (e, refl)
+stays (whole-settled a) p e = (e, refl)
+stays (whole-open a b) p e = (e, refl)
+stays (gave-unmourned a) p e = (e, refl)
+stays (gave-absent a b) p e = (e, refl)
+stays (gave-count a) p e = (e, refl)
+stays (found-at a b) p e = (e, refl)
+stays (found-none a) p e = (e, refl)
+stays (wrote-off a) p e = (e, refl)
+stays (wrote-absent a b) p e = (e, refl)
+stays (wrote-short a b d) p e = (e, refl)
+stays (wrote a b d f m n q) p e = (e, refl)
+
+stays-left : {k : Kind} {roster : List ℕ} {r : Recovery} → Good k roster r → (ds : List Call) (p : ℕ) → acceptedOf r .returned p ≡ true
+    → (acceptedOf (left r ds) .returned p ≡ true) × (acceptedOf (left r ds) .row p ≡ acceptedOf r .row p)
+unfolding left
+stays-left g [] p e = (e, refl)
+stays-left g (c ∷ ds) p e =
+    let s = stays (step g c) p e in
+    let t = stays-left (good-next g c) ds p (s .0) in
+    (t .0, t .1 ∙ s .1)
+
+-- ---- a record taken is written as its own bytes
+
+-- what is left when a record is taken
+taken-lays : {k : Kind} {roster bytes : List ℕ} {A B : Accepted} → Dictates k roster A (offer bytes) (says D.taken) B
+    → (x : Stored) × OfGroup k roster bytes x × (B ≡ lay A (x .own) (x .mourned))
+taken-lays (takes {x = x} s b f) = (x, s, refl)
+
+module _ {k : Kind} {roster : List ℕ} {r : Recovery} (g : Good k roster r) (bytes : List ℕ) (t : offered r bytes .answer ≡ O.Taken) where
+  taken-step : Dictates k roster (acceptedOf r) (offer bytes) (says D.taken) (acceptedOf (offered r bytes .recovery))
+  unfolding outcome next offerSays
+  taken-step =
+      subst (λ (a : Reply). Dictates k roster (acceptedOf r) (offer bytes) (says (offerSays a)) (acceptedOf (offered r bytes .recovery))) t (step g (offer bytes))
+
+  taken-good : Good k roster (offered r bytes .recovery)
+  unfolding next
+  taken-good = good-next g (offer bytes)
+
+  -- its place is back from then on, and its record is the one that was read
+  taken-stays : (ds : List Call) (x : Stored) (rest : List ℕ) → lone bytes ≡ got x rest
+      → (acceptedOf (left (offered r bytes .recovery) ds) .returned (x .own) ≡ true) × (recordOf (left (offered r bytes .recovery) ds) (x .own) ≡ x)
+  taken-stays ds x rest e = subst There (same (s .reads) e) (u .0, record-is (own good) (y .own) ∙ is)
+    where
+      r′ : Recovery
+      r′ = left (offered r bytes .recovery) ds
+
+      A : Accepted
+      A = acceptedOf r
+
+      B : Accepted
+      B = acceptedOf (offered r bytes .recovery)
+
+      There : Stored → Type 0
+      There x = (acceptedOf r′ .returned (x .own) ≡ true) × (recordOf r′ (x .own) ≡ x)
+
+      same : {p : Parsed Stored} {u v : List ℕ} {x y : Stored} → p ≡ got x u → p ≡ got y v → x ≡ y
+      same a b = cc
+
+      lays : (x : Stored) × OfGroup k roster bytes x × (B ≡ lay A (x .own) (x .mourned))
+      lays = taken-lays taken-step
+
+      y : Stored
+      y = lays .0
+
+      s : OfGroup k roster bytes y
+      s = lays .1
+
+      back : B .returned (y .own) ≡ true
+      back = subst (λ (B : Accepted). B .returned (y .own) ≡ true) (sym (lays .2)) (or-right (A .returned (y .own)) (eqb-self (y .own)))
+
+      row : B .row (y .own) ≡ y .mourned
+      row = ap (λ (B : Accepted). B .row (y .own)) (lays .2) ∙ ap (λ (t : Bool). cond t (y .mourned) (A .row (y .own))) (eqb-self (y .own))
+
+      good : Good k roster r′
+      good = good-after taken-good ds
+
+      u : (acceptedOf r′ .returned (y .own) ≡ true) × (acceptedOf r′ .row (y .own) ≡ B .row (y .own))
+      u = stays-left taken-good ds (y .own) back
+
+      kind : r′ .kind ≡ y .kind
+      kind = good .is-kind ∙ sym (s .same-kind)
+
+      list : roster ≡ y .roster
+      list = sym (s .same-roster)
+
+      mourned : acceptedOf r′ .row (y .own) ≡ y .mourned
+      mourned = u .1 ∙ row
+
+      is : recordIn (r′ .kind) roster (acceptedOf r′) (y .own) ≡ y
+      is = λ i. record { kind = kind i; own = y .own; roster = list i; mourned = mourned i }
+
+-- where a returned record is written
+lays-down : (r : Recovery) (p : ℕ) → acceptedOf r .returned p ≡ true → (out : List ℕ) (at : ℕ) → at + length (layout (recordOf r p)) ≤ length out
+    → writtenOf r p out at ≡ record { answer = W.Next (at + length (layout (recordOf r p))); buffer = putAt at (layout (recordOf r p)) out }
+lays-down r p b out at l = written-at r refl p out at (returned-on r p b) b l
+
+module _ {kind : ℕ} {roster : List ℕ} (f : Free kind roster) (cs : List Call) (bytes : List ℕ) (t : offered (reached kind roster cs) bytes .answer ≡ O.Taken) where
+  -- it was read
+  pub taken-reads : (x : Stored) × (rest : List ℕ) × (lone bytes ≡ got x rest)
+  taken-reads = let w = taken-lays (taken-step (good-left f cs) bytes t) in (w .0, w .1 .rest, w .1 .reads)
+
+  module _ (h : AllBytes bytes) (ds : List Call) (x : Stored) (rest : List ℕ) (e : lone bytes ≡ got x rest) where
+    -- whatever calls come after it, its place's record has the bytes that were offered
+    pub taken-written : layout (recordOf (left (offered (reached kind roster cs) bytes .recovery) ds) (x .own)) ≡ bytes
+    taken-written = ap layout (taken-stays (good-left f cs) bytes t ds x rest e .1) ∙ sym (lone-layout bytes x rest h e)
+
+    -- and they are what is written
+    pub taken-put : (out : List ℕ) (at : ℕ) → at + length bytes ≤ length out
+        → writtenOf (left (offered (reached kind roster cs) bytes .recovery) ds) (x .own) out at ≡ record { answer = W.Next (at + length bytes); buffer = putAt at bytes out }
+    taken-put out at l =
+        lays-down (left (offered (reached kind roster cs) bytes .recovery) ds) (x .own) (taken-stays (good-left f cs) bytes t ds x rest e .0) out at (rw taken-written l)
+        ∙ ap (λ (b : List ℕ). record { answer = W.Next (at + length b); buffer = putAt at b out }) taken-written
+
+-- ---- a record written is read as the one that was accepted
+
+module _ {k : Kind} {roster : List ℕ} {r : Recovery} (g : Good k roster r) (p : ℕ) (b : acceptedOf r .returned p ≡ true) where
+  returned-stored : IsStored (recordOf r p)
+  returned-stored = record-stored (own g) p (rw (g .is-size) at (returned-on r p b))
+
+module _ {kind : ℕ} {roster : List ℕ} (f : Free kind roster) (cs : List Call) (p : ℕ) (b : acceptedOf (reached kind roster cs) .returned p ≡ true)
+    (out : List ℕ) (at : ℕ) (l : at + length (layout (recordOf (reached kind roster cs) p)) ≤ length out) where
+  buffer-is : writtenOf (reached kind roster cs) p out at .buffer ≡ putAt at (layout (recordOf (reached kind roster cs) p)) out
+  buffer-is = ap (λ (w : Written). w .buffer) (lays-down (reached kind roster cs) p b out at l)
+
+  pub written-read : stored (drop at (writtenOf (reached kind roster cs) p out at .buffer))
+      ≡ got (recordOf (reached kind roster cs) p) (drop (at + length (layout (recordOf (reached kind roster cs) p))) out)
+  written-read =
+      ap (λ (l : List ℕ). stored (drop at l)) buffer-is ∙ ap stored (drop-put at (layout (recordOf (reached kind roster cs) p)) out l)
+      ∙ read-layout (recordOf (reached kind roster cs) p) (returned-stored (good-left f cs) p b) (drop (at + length (layout (recordOf (reached kind roster cs) p))) out)
+
+  -- as the reader answers
+  pub written-reading : reading (writtenOf (reached kind roster cs) p out at .buffer) at
+      ≡ readingOf (length out) at (got (recordOf (reached kind roster cs) p) (drop (at + length (layout (recordOf (reached kind roster cs) p))) out))
+  written-reading = ap (λ (l : List ℕ). reading l at) buffer-is ∙ read-back (recordOf (reached kind roster cs) p) (returned-stored (good-left f cs) p b) out at l
+
+-- ---- a history shown is found to fit
+
+-- what was shown
+shown-holds : {k : Kind} {roster : List ℕ} {A B : Accepted} {i : ℕ} {a b a′ b′ : List ℕ} → Dictates k roster A (show i a b) (lent D.shown a′ b′) B
+    → (F : History) × (G : History) × (16 * length roster ≤ length a) × (16 * length roster ≤ length b) × Disagree k (length roster) A i F G × Holds (length roster) a a′ F × Holds (length roster) b b′ G
+shown-holds (showed {F = F} {G = G} x u v d y z) = (F, G, u, v, d, y, z)
+
+fits-said : (c : Checked) → checkedSays c ≡ D.fits → c ≡ C.Fits
+unfolding checkedSays
+fits-said C.Fits e = refl
+fits-said C.FitsNot e = let z : _≡_ {A = ℕ} 0 1 = cc in absurd (omega arith)
+fits-said (C.Refused j) e = let z : _≡_ {A = ℕ} 0 1 = cc in absurd (omega arith)
+
+module _ {k : Kind} {roster : List ℕ} {r : Recovery} (g : Good k roster r) where
+  -- a buffer whose rows fit
+  fits-checked : (h : List ℕ) → 16 * length roster ≤ length h → Fits k (length roster) (acceptedOf r) (historyIn (length roster) h) → checked r h ≡ C.Fits
+  unfolding outcome plain
+  fits-checked h l f = fits-said (checked r h) (said (single (g .fits) (g .sound) (step g (check h)) (checked-fits l f) tt tt .0))
+    where
+      said : says (checkedSays (checked r h)) ≡ says D.fits → checkedSays (checked r h) ≡ D.fits
+      said e = cc
+
+  holds-checked : (a a′ : List ℕ) (H : History) → 16 * length roster ≤ length a → Holds (length roster) a a′ H → Fits k (length roster) (acceptedOf r) H → checked r a′ ≡ C.Fits
+  holds-checked a a′ H l y f =
+      fits-checked a′ (rw (y .same-length) l) (subst (Fits k (length roster) (acceptedOf r)) (sym (λ i p q. y .is-history p q i)) f)
+
+  show-checked : (i : ℕ) (a b : List ℕ) → shown r i a b .answer ≡ S.Shown → (checked r (shown r i a b .first) ≡ C.Fits) × (checked r (shown r i a b .second) ≡ C.Fits)
+  unfolding outcome shownGives showingSays
+  show-checked i a b e = (holds-checked a (shown r i a b .first) (w .0) (w .2) (w .5) (w .4 .first-fits), holds-checked b (shown r i a b .second) (w .1) (w .3) (w .6) (w .4 .second-fits))
+    where
+      shows : Dictates k roster (acceptedOf r) (show i a b) (lent D.shown (shown r i a b .first) (shown r i a b .second)) (acceptedOf (next r (show i a b)))
+      shows = subst (λ (s : Showing). Dictates k roster (acceptedOf r) (show i a b) (lent (showingSays s) (shown r i a b .first) (shown r i a b .second)) (acceptedOf (next r (show i a b)))) e (step g (show i a b))
+
+      w : (F : History) × (G : History) × (16 * length roster ≤ length a) × (16 * length roster ≤ length b) × Disagree k (length roster) (acceptedOf r) i F G
+          × Holds (length roster) a (shown r i a b .first) F × Holds (length roster) b (shown r i a b .second) G
+      w = shown-holds shows
+
+pub shown-checked : {kind : ℕ} {roster : List ℕ} → Free kind roster → (cs : List Call) (i : ℕ) (a b : List ℕ) → shown (reached kind roster cs) i a b .answer ≡ S.Shown
+    → (checked (reached kind roster cs) (shown (reached kind roster cs) i a b .first) ≡ C.Fits) × (checked (reached kind roster cs) (shown (reached kind roster cs) i a b .second) ≡ C.Fits)
+shown-checked f cs = show-checked (good-left f cs)

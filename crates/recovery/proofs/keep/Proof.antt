@@ -1,0 +1,18 @@
+-- `recovery::keep` meets its contract. Assumes nothing.
+use native.Mathlib.Omega.{arith}
+use borrow.Author.Needs.{needs}
+use Rattle.recovery.proofs.Gives.{keep-is}
+use Rattle.recovery.proofs.keep.Statement.{statement}
+use Rattle.recovery.proofs.keep.Tie as tie
+
+with-requires : tie.Need-with-requires
+with-requires c κs = search needs
+
+set-requires : tie.Need-set-requires
+set-requires c κs = search needs
+
+returns : tie.Need-returns
+returns c = keep-is _ _ _ _ _ (omega arith) (omega arith) (c .before .before .with .ensures) (c .set .ensures)
+
+pub keep-spec : {M : Type 1} → statement M
+keep-spec = tie.close (tie.spec with-requires set-requires returns)

@@ -1,0 +1,37 @@
+-- `recovery::open_as` meets its contract. Assumes nothing.
+use mathlib.Core.Path.{sym, _∙_, ap}
+use borrow.Author.Needs.{needs}
+use Rattle.recovery.specs.declared.Recovery.{Recovery}
+use Rattle.recovery.specs.declared.Opening.the-variants as G
+use Rattle.rosters.proofs.Laws.{listed-sound}
+use Rattle.recovery.proofs.Gives.{opened-sound, opened-refused}
+use Rattle.recovery.proofs.open_as.Statement.{statement}
+use Rattle.recovery.proofs.open_as.Tie as tie
+
+check-requires : tie.Need-check-requires
+check-requires c κs = search needs
+
+enum-told : tie.Need-enum-told
+enum-told c = search needs
+
+fresh-requires : tie.Need-fresh-requires
+fresh-requires c κs = listed-sound _ .0 (sym (c .before .before .check .ensures) ∙ c .enum-told .given .1) .few
+
+enum-known-found : tie.Need-enum-known-found
+enum-known-found c = search needs
+
+unopened-requires : tie.Need-unopened-requires
+unopened-requires c κs = search needs
+
+returns : tie.Need-returns
+returns c =
+    ap (λ (r : Recovery). record { answer = G.Opened; recovery = r }) (c .fresh .ensures)
+    ∙ opened-sound _ _ _ (c .before .before .before .check .ensures) (c .before .enum-told .given .1)
+
+returns-2 : tie.Need-returns-2
+returns-2 c =
+    c .unopened .ensures ∙ opened-refused _ _ _ _ (c .before .before .before .before .check .ensures) (c .before .before .found .given .1)
+
+pub open-as-spec : {M : Type 1} → statement M
+open-as-spec =
+    tie.close (tie.spec check-requires enum-told fresh-requires enum-known-found unopened-requires returns returns-2)

@@ -1,0 +1,201 @@
+-- What each call gives, and each lent byte afterwards, for every recovery and every input: the definitions that the contracts
+-- cite. Assumes nothing.
+use mathlib.Core.Bool.{Bool, true, false, not, cond, _&&_}
+use mathlib.Core.List.{List, [], _∷_, _++_}
+use Prim.Native.Nat.{ℕ, _+_, _-_, _*_}
+use lib.ListN.{length, take, replicate}
+use lib.Dec.{leb, ltb}
+use Rattle.places.specs.Sets.{nothing, with, same}
+use Rattle.places.specs.PlaceSets.{has, packed, found}
+use Rattle.places.specs.declared.PlaceSet.{PlaceSet}
+use Rattle.places.specs.declared.Found.{Found}
+use Rattle.histories.specs.declared.Kind.{Kind}
+use Rattle.histories.specs.declared.Kind.the-variants.{Full, Short}
+use Rattle.histories.specs.Histories.{Row, History, Accepted}
+use Rattle.histories.specs.Rule.{Answer, is-last, not-last, is-open, answer, recorded, second, accepts, fitsTest, settled, unmourned, unmournedAbsent, unmournedCount}
+use Rattle.rosters.specs.Rosters.{placeOf, listed}
+use Rattle.rosters.specs.declared.Listed.{Listed}
+use Rattle.rosters.specs.declared.Listed.the-variants as L
+use Rattle.rows.specs.Rows.{noRows, withRow, historyIn, laid}
+use Rattle.records.specs.Layout.{Parsed, got, refused, knownKind, kindOf, kindByte, Stored, lone, layout}
+use Rattle.records.specs.Records.{sameList, Written, unwritten, writtenAt}
+use Rattle.answers.specs.Views.{size, acceptedIn}
+use Rattle.checks.specs.Checks.{offRoster}
+use Rattle.recovery.specs.declared.Recovery.{Recovery}
+use Rattle.recovery.specs.declared.Opening.{Opening}
+use Rattle.recovery.specs.declared.Opening.the-variants as G
+use Rattle.recovery.specs.declared.Opened.{Opened}
+use Rattle.recovery.specs.declared.Reply.{Reply}
+use Rattle.recovery.specs.declared.Reply.the-variants as O
+use Rattle.recovery.specs.declared.Offered.{Offered}
+use Rattle.recovery.specs.declared.Asked.{Asked}
+use Rattle.recovery.specs.declared.Asked.the-variants as A
+use Rattle.recovery.specs.declared.Showing.{Showing}
+use Rattle.recovery.specs.declared.Showing.the-variants as S
+use Rattle.recovery.specs.declared.Checked.{Checked}
+use Rattle.recovery.specs.declared.Checked.the-variants as C
+
+-- ---- what a recovery holds, whatever its fields are
+
+-- how many places: a count above 128, which no opening makes, counts as 128
+unfoldable pub sizeOf : Recovery → ℕ
+sizeOf r = size (r .count)
+
+unfoldable pub rosterOf : Recovery → List ℕ
+rosterOf r = take (sizeOf r) (r .serials)
+
+-- the accepted records; places off the roster are not looked at
+unfoldable pub acceptedOf : Recovery → Accepted
+acceptedOf r = acceptedIn (r .count) (has (r .returned)) (r .rows)
+
+-- ---- opening: 2, then 3, 4, 5, or opened
+
+-- a roster, and nobody back
+unfoldable pub fresh : Kind → List ℕ → Recovery
+fresh k s = record { kind = k; count = length s; serials = s ++ replicate (128 - length s) 0; returned = packed nothing; rows = noRows }
+
+-- a refused opening gives a recovery of no places
+unfoldable pub unopened : ℕ → Opened
+unopened j = record { answer = G.Refused j; recovery = fresh Full [] }
+
+unfoldable pub openedAs : Kind → List ℕ → Listed → Opened
+openedAs k s L.Sound = record { answer = G.Opened; recovery = fresh k s }
+openedAs k s (L.Refused j) = unopened j
+
+unfoldable pub opened : ℕ → List ℕ → Opened
+opened kind s = cond (knownKind kind) (openedAs (kindOf kind) s (listed s)) (unopened 2)
+
+-- ---- offering: 1 to 8, 9, repeated or 10, 11 or taken
+
+-- the record is of this group: its kind and its roster are the recovery's, order included
+unfoldable pub sameKind : Kind → Kind → Bool
+sameKind Full Full = true
+sameKind Full Short = false
+sameKind Short Full = false
+sameKind Short Short = true
+
+unfoldable pub ofGroup : Recovery → Stored → Bool
+ofGroup r x = sameKind (x .kind) (r .kind) && sameList (x .roster) (rosterOf r)
+
+-- the recovery stays as it is
+unfoldable pub saying : Recovery → Reply → Offered
+saying r a = record { answer = a; recovery = r }
+
+-- the record of p with the mourned set M is kept
+unfoldable pub keeping : Recovery → ℕ → Row → Recovery
+keeping r p M = record {
+  kind = r .kind;
+  count = r .count;
+  serials = r .serials;
+  returned = packed (with p (has (r .returned)));
+  rows = withRow (r .rows) p (packed M);
+}
+
+-- of one that is back
+unfoldable pub again : Recovery → ℕ → Row → Offered
+again r p M = saying r (cond (same (sizeOf r) M (acceptedOf r .row p)) O.Repeated (O.Refused 10))
+
+-- of another
+unfoldable pub newly : Recovery → ℕ → Row → Offered
+newly r p M =
+    cond (accepts (r .kind) (sizeOf r) (acceptedOf r) p M)
+    (record { answer = O.Taken; recovery = keeping r p M })
+    (saying r (O.Refused 11))
+
+-- a record of the group: of p, with the mourned set M
+unfoldable pub entered : Recovery → ℕ → Row → Offered
+entered r p M = cond (acceptedOf r .returned p) (again r p M) (newly r p M)
+
+-- a sound record
+unfoldable pub judged : Recovery → Stored → Offered
+judged r x = cond (ofGroup r x) (entered r (x .own) (x .mourned)) (saying r (O.Refused 9))
+
+unfoldable pub offeredAs : Recovery → Parsed Stored → Offered
+offeredAs r (got x rest) = judged r x
+offeredAs r (refused j) = saying r (O.Refused j)
+
+unfoldable pub offered : Recovery → List ℕ → Offered
+offered r bytes = offeredAs r (lone bytes)
+
+-- ---- asking: 12, or the answer
+
+unfoldable pub answerAt : Recovery → ℕ → Answer
+answerAt r i = answer (r .kind) (sizeOf r) (acceptedOf r) i
+
+unfoldable pub askedAs : Answer → Asked
+askedAs is-last = A.Last
+askedAs not-last = A.NotLast
+askedAs is-open = A.Open
+
+unfoldable pub asked : Recovery → ℕ → Asked
+asked r i = cond (ltb i (sizeOf r)) (askedAs (answerAt r i)) (A.Refused 12)
+
+-- ---- showing: 12, decided, 13, or both histories laid down
+
+-- the answer, and both buffers afterwards
+pub record Shown : Type 0 where
+  pub answer : Showing
+  pub first : List ℕ
+  pub second : List ℕ
+
+-- both buffers stay as they are
+unfoldable pub unshown : Showing → List ℕ → List ℕ → Shown
+unshown s a b = record { answer = s; first = a; second = b }
+
+-- an open place
+unfoldable pub shownOpen : Recovery → ℕ → List ℕ → List ℕ → Shown
+shownOpen r i a b =
+    cond (leb (16 * sizeOf r) (length a) && leb (16 * sizeOf r) (length b))
+    (record {
+      answer = S.Shown;
+      first = laid (sizeOf r) (recorded (acceptedOf r)) a;
+      second = laid (sizeOf r) (second (r .kind) (sizeOf r) (acceptedOf r) i) b;
+    })
+    (unshown (S.Refused 13) a b)
+
+-- a place on the roster
+unfoldable pub shownAs : Answer → Recovery → ℕ → List ℕ → List ℕ → Shown
+shownAs is-last r i a b = unshown S.Decided a b
+shownAs not-last r i a b = unshown S.Decided a b
+shownAs is-open r i a b = shownOpen r i a b
+
+unfoldable pub shown : Recovery → ℕ → List ℕ → List ℕ → Shown
+shown r i a b = cond (ltb i (sizeOf r)) (shownAs (answerAt r i) r i a b) (unshown (S.Refused 12) a b)
+
+-- ---- checking a lent history: 13, 15, or whether it fits
+
+unfoldable pub checkedRows : Recovery → History → Checked
+checkedRows r H =
+    cond (offRoster (sizeOf r) H) (C.Refused 15) (cond (fitsTest (r .kind) (sizeOf r) (acceptedOf r) H) C.Fits C.FitsNot)
+
+unfoldable pub checked : Recovery → List ℕ → Checked
+checked r h = cond (leb (16 * sizeOf r) (length h)) (checkedRows r (historyIn (sizeOf r) h)) (C.Refused 13)
+
+-- ---- the whole, the two sets and the number
+
+unfoldable pub settledOf : Recovery → Bool
+settledOf r = settled (r .kind) (sizeOf r) (acceptedOf r)
+
+unfoldable pub unmournedOf : Recovery → Row
+unmournedOf r = unmourned (sizeOf r) (acceptedOf r)
+
+unfoldable pub unmournedAbsentOf : Recovery → Row
+unmournedAbsentOf r = unmournedAbsent (sizeOf r) (acceptedOf r)
+
+unfoldable pub unmournedCountOf : Recovery → ℕ
+unmournedCountOf r = unmournedCount (sizeOf r) (acceptedOf r)
+
+-- ---- the place of a serial
+
+unfoldable pub foundIn : Recovery → ℕ → Found
+foundIn r x = found (length (rosterOf r)) (placeOf x (rosterOf r))
+
+-- ---- writing a returned record: 12, 14, 13, or laid down from a position on
+
+-- the accepted record of p
+unfoldable pub recordOf : Recovery → ℕ → Stored
+recordOf r p = record { kind = r .kind; own = p; roster = rosterOf r; mourned = acceptedOf r .row p }
+
+unfoldable pub writtenOf : Recovery → ℕ → List ℕ → ℕ → Written
+writtenOf r p out at =
+    cond (ltb p (sizeOf r)) (cond (acceptedOf r .returned p) (writtenAt (layout (recordOf r p)) out at) (unwritten 14 out)) (unwritten 12 out)

@@ -1,0 +1,154 @@
+-- Demand 3: what the accepted records (document 01's pile) dictate for each call. A call holds what its caller passes, an
+-- outcome what the caller gets, lent bytes included. Nothing here knows of a recovery. Assumes nothing.
+use mathlib.Core.Path.{_≡_}
+use mathlib.Core.Bool.{true, false}
+use mathlib.Core.Logic.{_⊎_, _↔_}
+use mathlib.Core.List.{List, [], _∷_}
+use Prim.Native.Nat.{ℕ, _+_, _*_, _^_, _<_, _≤_}
+use lib.ListN.{length, getD, take, drop}
+use Rattle.places.specs.Sets.{count}
+use Rattle.histories.specs.declared.Kind.{Kind}
+use Rattle.histories.specs.Histories.{Row, History, Accepted, lay, Fits, LastInAll, LastInNone, Decided, Disagree}
+use Rattle.rosters.specs.Rosters.{IsRoster}
+use Rattle.rows.specs.Rows.{historyIn}
+use Rattle.records.specs.Layout.{got, Stored, stored, lone, layout}
+use Rattle.records.specs.Layout as L
+
+-- document 01's words, and its refusals by their numbers
+pub data Said : Type 0 where
+  opened taken repeated is-last not-last is-open decided shown fits fits-not settled unsettled not-found : Said
+  -- a record was written, up to this position
+  ends : ℕ → Said
+  refused : ℕ → Said
+
+-- ---- opening
+
+-- a kind byte that is known
+abbrev pub Known : ℕ → Type 0
+Known kind = (kind ≡ 1) ⊎ (kind ≡ 2)
+
+-- an opening free of the faults 2 to 5, with serials of 32 bits, as every lent list has them
+pub record Free (kind : ℕ) (roster : List ℕ) : Type 0 where
+  pub known : Known kind
+  pub sound : IsRoster roster
+  pub serials : (p : ℕ) → p < length roster → getD roster p 0 < 2 ^ 32
+
+-- what opening must say: 2, 3, 4, 5 in that order, each over the whole, and opened where there is no fault
+pub data Opens (kind : ℕ) (s : List ℕ) : Said → Type 0 where
+  unknown : ¬ (Known kind) → Opens kind s (refused 2)
+  wrong-count : Known kind → (length s ≡ 0) ⊎ (128 < length s) → Opens kind s (refused 3)
+  zero-serial : {p : ℕ} → Known kind → 1 ≤ length s → length s ≤ 128 → p < length s → getD s p 0 ≡ 0 → Opens kind s (refused 4)
+  twice : {p q : ℕ} → Known kind → 1 ≤ length s → length s ≤ 128 → ((p : ℕ) → p < length s → ¬ (getD s p 0 ≡ 0))
+      → p < q → q < length s → getD s p 0 ≡ getD s q 0 → Opens kind s (refused 5)
+  succeeds : Known kind → IsRoster s → Opens kind s opened
+
+-- ---- calls and outcomes
+
+pub data Call : Type 0 where
+  offer : List ℕ → Call
+  ask : ℕ → Call
+  show : ℕ → List ℕ → List ℕ → Call
+  -- a lent history
+  check : List ℕ → Call
+  whole unmourned unmourned-absent unmourned-count : Call
+  -- a serial
+  find : ℕ → Call
+  -- a place, a buffer, and a position in it
+  write : ℕ → List ℕ → ℕ → Call
+
+pub data Outcome : Type 0 where
+  says : Said → Outcome
+  -- what is said, and the lent buffers afterwards
+  lent : Said → List ℕ → List ℕ → Outcome
+  lent-one : Said → List ℕ → Outcome
+  places : Row → Outcome
+  number : ℕ → Outcome
+
+-- ---- what the accepted records dictate, of a group of this kind and roster
+
+-- the bytes are a lone record of this group, free of the faults 1 to 9
+pub record OfGroup (k : Kind) (roster : List ℕ) (bytes : List ℕ) (x : Stored) : Type 0 where
+  pub rest : List ℕ
+  pub reads : lone bytes ≡ got x rest
+  pub same-kind : x .kind ≡ k
+  pub same-roster : x .roster ≡ roster
+
+-- some accepted record names q
+abbrev pub Mourned : Accepted → ℕ → Type 0
+Mourned A q = (p : ℕ) × (A .returned p ≡ true) × (A .row p q ≡ true)
+
+-- S is the set of the unmourned places of a roster of n
+abbrev pub Unmourned : ℕ → Accepted → Row → Type 0
+Unmourned n A S = (q : ℕ) → (S q ≡ true) ↔ ((q < n) × (¬ (Mourned A q)))
+
+-- a buffer afterwards, read as the rows of a history, and equal to the one before past the rows
+pub record Holds (n : ℕ) (old new : List ℕ) (H : History) : Type 0 where
+  pub same-length : length new ≡ length old
+  pub same-rest : drop (16 * n) new ≡ drop (16 * n) old
+  pub is-history : (p q : ℕ) → historyIn n new p q ≡ H p q
+
+-- the accepted record of p
+abbrev pub recordIn : Kind → List ℕ → Accepted → ℕ → Stored
+recordIn k roster A p = record { kind = k; own = p; roster = roster; mourned = A .row p }
+
+-- where its bytes end, if they start at a position
+abbrev pub endIn : Kind → List ℕ → Accepted → ℕ → ℕ → ℕ
+endIn k roster A p at = at + length (layout (recordIn k roster A p))
+
+-- `Dictates k roster A c o B`: with the records A accepted, the call c must have the outcome o, and leaves the records B accepted
+pub data Dictates (k : Kind) (roster : List ℕ) : Accepted → Call → Outcome → Accepted → Type 0 where
+  faulty : {A : Accepted} {bytes : List ℕ} {j : ℕ} → lone bytes ≡ L.refused j → 1 ≤ j → j ≤ 8 → Dictates k roster A (offer bytes) (says (refused j)) A
+  foreign : {A : Accepted} {bytes rest : List ℕ} {x : Stored} → lone bytes ≡ got x rest → ¬ ((x .kind ≡ k) × (x .roster ≡ roster))
+      → Dictates k roster A (offer bytes) (says (refused 9)) A
+  repeats : {A : Accepted} {bytes : List ℕ} {x : Stored} → OfGroup k roster bytes x → A .returned (x .own) ≡ true → x .mourned ≡ A .row (x .own)
+      → Dictates k roster A (offer bytes) (says repeated) A
+  differs : {A : Accepted} {bytes : List ℕ} {x : Stored} → OfGroup k roster bytes x → A .returned (x .own) ≡ true → ¬ (x .mourned ≡ A .row (x .own))
+      → Dictates k roster A (offer bytes) (says (refused 10)) A
+  takes : {A : Accepted} {bytes : List ℕ} {x : Stored} {H : History} → OfGroup k roster bytes x → A .returned (x .own) ≡ false
+      → Fits k (length roster) (lay A (x .own) (x .mourned)) H
+      → Dictates k roster A (offer bytes) (says taken) (lay A (x .own) (x .mourned))
+  none-fits : {A : Accepted} {bytes : List ℕ} {x : Stored} → OfGroup k roster bytes x → A .returned (x .own) ≡ false
+      → ((H : History) → ¬ (Fits k (length roster) (lay A (x .own) (x .mourned)) H))
+      → Dictates k roster A (offer bytes) (says (refused 11)) A
+  asked-off : {A : Accepted} {i : ℕ} → length roster ≤ i → Dictates k roster A (ask i) (says (refused 12)) A
+  asked-last : {A : Accepted} {i : ℕ} → i < length roster → LastInAll k (length roster) A i → Dictates k roster A (ask i) (says is-last) A
+  asked-not : {A : Accepted} {i : ℕ} → i < length roster → LastInNone k (length roster) A i → Dictates k roster A (ask i) (says not-last) A
+  asked-open : {A : Accepted} {i : ℕ} {F G : History} → i < length roster → Disagree k (length roster) A i F G → Dictates k roster A (ask i) (says is-open) A
+  showed-off : {A : Accepted} {i : ℕ} {a b : List ℕ} → length roster ≤ i → Dictates k roster A (show i a b) (lent (refused 12) a b) A
+  showed-decided : {A : Accepted} {i : ℕ} {a b : List ℕ} → i < length roster → Decided k (length roster) A i
+      → Dictates k roster A (show i a b) (lent decided a b) A
+  showed-short : {A : Accepted} {i : ℕ} {a b : List ℕ} {F G : History} → i < length roster → Disagree k (length roster) A i F G
+      → (length a < 16 * length roster) ⊎ (length b < 16 * length roster) → Dictates k roster A (show i a b) (lent (refused 13) a b) A
+  showed : {A : Accepted} {i : ℕ} {a b a′ b′ : List ℕ} {F G : History} → i < length roster → 16 * length roster ≤ length a → 16 * length roster ≤ length b
+      → Disagree k (length roster) A i F G → Holds (length roster) a a′ F → Holds (length roster) b b′ G
+      → Dictates k roster A (show i a b) (lent shown a′ b′) A
+  checked-short : {A : Accepted} {h : List ℕ} → length h < 16 * length roster → Dictates k roster A (check h) (says (refused 13)) A
+  checked-off : {A : Accepted} {h : List ℕ} (p q : ℕ) → 16 * length roster ≤ length h → historyIn (length roster) h p q ≡ true → length roster ≤ q
+      → Dictates k roster A (check h) (says (refused 15)) A
+  checked-fits : {A : Accepted} {h : List ℕ} → 16 * length roster ≤ length h → Fits k (length roster) A (historyIn (length roster) h)
+      → Dictates k roster A (check h) (says fits) A
+  checked-not : {A : Accepted} {h : List ℕ} → 16 * length roster ≤ length h → ((p q : ℕ) → historyIn (length roster) h p q ≡ true → q < length roster)
+      → ¬ (Fits k (length roster) A (historyIn (length roster) h)) → Dictates k roster A (check h) (says fits-not) A
+  whole-settled : {A : Accepted} → ((i : ℕ) → i < length roster → Decided k (length roster) A i) → Dictates k roster A whole (says settled) A
+  whole-open : {A : Accepted} {i : ℕ} {F G : History} → i < length roster → Disagree k (length roster) A i F G → Dictates k roster A whole (says unsettled) A
+  gave-unmourned : {A : Accepted} {S : Row} → Unmourned (length roster) A S → Dictates k roster A unmourned (places S) A
+  gave-absent : {A : Accepted} {S U : Row} → Unmourned (length roster) A U → ((q : ℕ) → (S q ≡ true) ↔ ((U q ≡ true) × (A .returned q ≡ false)))
+      → Dictates k roster A unmourned-absent (places S) A
+  gave-count : {A : Accepted} {U : Row} → Unmourned (length roster) A U → Dictates k roster A unmourned-count (number (count (length roster) U)) A
+  found-at : {A : Accepted} {x p : ℕ} → p < length roster → getD roster p 0 ≡ x → Dictates k roster A (find x) (number p) A
+  found-none : {A : Accepted} {x : ℕ} → ((p : ℕ) → p < length roster → ¬ (getD roster p 0 ≡ x)) → Dictates k roster A (find x) (says not-found) A
+  wrote-off : {A : Accepted} {p at : ℕ} {out : List ℕ} → length roster ≤ p → Dictates k roster A (write p out at) (lent-one (refused 12) out) A
+  wrote-absent : {A : Accepted} {p at : ℕ} {out : List ℕ} → p < length roster → A .returned p ≡ false
+      → Dictates k roster A (write p out at) (lent-one (refused 14) out) A
+  wrote-short : {A : Accepted} {p at : ℕ} {out : List ℕ} → p < length roster → A .returned p ≡ true → length out < endIn k roster A p at
+      → Dictates k roster A (write p out at) (lent-one (refused 13) out) A
+  wrote : {A : Accepted} {p at : ℕ} {out out′ : List ℕ} → p < length roster → A .returned p ≡ true → endIn k roster A p at ≤ length out
+      → length out′ ≡ length out → take at out′ ≡ take at out → drop (endIn k roster A p at) out′ ≡ drop (endIn k roster A p at) out
+      → stored (drop at out′) ≡ got (recordIn k roster A p) (drop (endIn k roster A p at) out′)
+      → Dictates k roster A (write p out at) (lent-one (ends (endIn k roster A p at)) out′) A
+
+-- a whole list of calls: each has the outcome that the records accepted before it dictate
+pub data Whole (k : Kind) (roster : List ℕ) : Accepted → List Call → List Outcome → Type 0 where
+  end : {A : Accepted} → Whole k roster A [] []
+  then : {A B : Accepted} {c : Call} {o : Outcome} {cs : List Call} {os : List Outcome}
+      → Dictates k roster A c o B → Whole k roster B cs os → Whole k roster A (c ∷ cs) (o ∷ os)

@@ -1,0 +1,258 @@
+// A recovery: the kind and the roster of a group, who is back, and their rows. It goes in by value and comes back by value, and keeps
+// nothing that depends on the order in which records came. The definitions that the contracts cite stand in specs/Contracts.antt;
+// demand 3, over whole lists of calls, in specs/Demand.antt and proofs/Demand.antt.
+ghost use mathlib.Core.Path.{_≡_};
+ghost use mathlib.Core.Bool.{true, cond};
+ghost use mathlib.Core.List.{_++_};
+ghost use Prim.Native.Nat.{ℕ, _-_, _*_, _≤_, _<_};
+ghost use lib.ListN.{length, replicate};
+ghost use lib.Dec.{eqb};
+ghost use Rattle.places.specs.PlaceSets.{has};
+ghost use Rattle.rosters.specs.Rosters.{listed};
+ghost use Rattle.rows.specs.Rows.{laid};
+ghost use Rattle.histories.specs.Rule as rule;
+ghost use Rattle.answers.specs.Views as views;
+ghost use Rattle.recovery.specs.Contracts as contracts;
+ghost use Rattle.recovery.specs.Contracts.{opened, openedAs, keeping, asked, shown, shownOpen, answerAt, checked, settledOf, unmournedOf, unmournedAbsentOf, unmournedCountOf, foundIn};
+use answers::Answer;
+use histories::Kind;
+use places::Found;
+use places::Place;
+use places::PlaceSet;
+use rosters::Listed;
+use rosters::Serial;
+use rows::Rows;
+
+// The first `count` of `serials` are the roster. A place in `returned` is back, and its row is its record's mourned set.
+pub struct Recovery {
+    pub kind: Kind,
+    pub count: usize,
+    pub serials: [u32; 128],
+    pub returned: PlaceSet,
+    pub rows: Rows,
+}
+
+pub enum Opening {
+    Opened,
+    Refused(u8),
+}
+
+// What opening gives: where it is refused, the recovery has no places.
+pub struct Opened {
+    pub answer: Opening,
+    pub recovery: Recovery,
+}
+
+pub enum Reply {
+    Taken,
+    Repeated,
+    Refused(u8),
+}
+
+// What offering gives: where nothing was taken, the recovery is as it was.
+pub struct Offered {
+    pub answer: Reply,
+    pub recovery: Recovery,
+}
+
+pub enum Asked {
+    Last,
+    NotLast,
+    Open,
+    Refused(u8),
+}
+
+pub enum Showing {
+    Shown,
+    Decided,
+    Refused(u8),
+}
+
+pub enum Checked {
+    Fits,
+    FitsNot,
+    Refused(u8),
+}
+
+// The roster's length: a count above 128 counts as 128.
+fn size(count: usize) -> usize
+    ensures { λ n. ⌜ n ≡ views.size count ⌝ }
+    ensures { λ n. ⌜ n ≤ 128 ⌝ }
+{
+    if count <= 128 {
+        return count;
+    }
+    128
+}
+
+// A list of serials with zeros after them.
+fn padded(list: &[u32]) -> [u32; 128]
+    requires { ⌜ length (now list) ≤ 128 ⌝ }
+    ensures { λ s. ⌜ s ≡ now (list .entry) ++ replicate (128 - length (now (list .entry))) 0 ⌝ }
+{
+    let mut serials = [0u32; 128];
+    let mut i = 0;
+    while i < list.len() {
+        serials[i] = list[i];
+        i += 1;
+    }
+    serials
+}
+
+// A recovery with this roster, and nobody back.
+fn fresh(kind: Kind, list: &[u32]) -> Recovery
+    requires { ⌜ length (now list) ≤ 128 ⌝ }
+    ensures { λ r. ⌜ r ≡ contracts.fresh kind (now (list .entry)) ⌝ }
+{
+    let serials = padded(list);
+    let returned = places::empty();
+    let rows = rows::none();
+    Recovery {
+        kind,
+        count: list.len(),
+        serials,
+        returned,
+        rows,
+    }
+}
+
+// A refused opening: a recovery of no places.
+fn unopened(fault: u8) -> Opened
+    ensures { λ s. ⌜ s ≡ contracts.unopened fault ⌝ }
+{
+    let serials = [0u32; 128];
+    let returned = places::empty();
+    let rows = rows::none();
+    let recovery = Recovery {
+        kind: Kind::Full,
+        count: 0,
+        serials,
+        returned,
+        rows,
+    };
+    Opened {
+        answer: Opening::Refused(fault),
+        recovery,
+    }
+}
+
+// Opening with a known kind: 3, 4, 5, or opened.
+fn open_as(kind: Kind, list: &[u32]) -> Opened
+    ensures { λ s. ⌜ s ≡ openedAs kind (now (list .entry)) (listed (now (list .entry))) ⌝ }
+{
+    let found = rosters::check(list);
+    match found {
+        Listed::Sound => {
+            let recovery = fresh(kind, list);
+            Opened {
+                answer: Opening::Opened,
+                recovery,
+            }
+        }
+        Listed::Refused(fault) => unopened(fault),
+    }
+}
+
+// Opens a recovery from a kind byte and a list of serials: 2, 3, 4, 5, or opened.
+pub fn open(kind: u8, list: &[u32]) -> Opened
+    ensures { λ s. ⌜ s ≡ opened kind (now (list .entry)) ⌝ }
+{
+    match kind {
+        1 => open_as(Kind::Full, list),
+        2 => open_as(Kind::Short, list),
+        0 | 3..=255 => unopened(2),
+    }
+}
+
+// The recovery with the record of a place, as taking it leaves it.
+pub fn keep(r: Recovery, own: Place, mourned: PlaceSet) -> Recovery
+    ensures { λ s. ⌜ s ≡ keeping r (own .0) (has mourned) ⌝ }
+{
+    let mut next = r;
+    let returned = next.returned;
+    next.returned = places::with(returned, own);
+    rows::set(&mut next.rows, own, mourned);
+    next
+}
+
+// Asks for a place: 12, or the answer.
+pub fn ask(r: Recovery, place: Place) -> Asked
+    ensures { λ s. ⌜ s ≡ asked r (place .0) ⌝ }
+{
+    let count = r.count;
+    let kind = r.kind;
+    let returned = r.returned;
+    let n = size(count);
+    if n <= place.0 {
+        return Asked::Refused(12);
+    }
+    let answer = answers::answer_for(kind, &r.rows, returned, count, place);
+    match answer {
+        Answer::Last => Asked::Last,
+        Answer::NotLast => Asked::NotLast,
+        Answer::Open => Asked::Open,
+    }
+}
+
+// The place of a serial.
+pub fn find(r: Recovery, serial: Serial) -> Found
+    ensures { λ s. ⌜ s ≡ foundIn r (serial .0) ⌝ }
+{
+    let n = size(r.count);
+    let serials = r.serials;
+    rosters::find(&serials[..n], serial)
+}
+
+// The unmourned places.
+pub fn unmourned(r: Recovery) -> PlaceSet
+    ensures { λ s. ⌜ has s ≡ unmournedOf r ⌝ }
+{
+    let returned = r.returned;
+    answers::unmourned(&r.rows, returned, r.count)
+}
+
+// The unmourned places that are absent.
+pub fn unmourned_absent(r: Recovery) -> PlaceSet
+    ensures { λ s. ⌜ has s ≡ unmournedAbsentOf r ⌝ }
+{
+    let returned = r.returned;
+    let all = unmourned(r);
+    places::difference(all, returned)
+}
+
+// How many are unmourned.
+pub fn unmourned_count(r: Recovery) -> usize
+    ensures { λ s. ⌜ s ≡ unmournedCountOf r ⌝ }
+{
+    let all = unmourned(r);
+    places::count(all)
+}
+
+// Whether no place is open.
+pub fn settled(r: Recovery) -> bool
+    ensures { λ s. ⌜ s ≡ settledOf r ⌝ }
+{
+    let kind = r.kind;
+    let returned = r.returned;
+    answers::settled(kind, &r.rows, returned, r.count)
+}
+
+// Checks a lent history: 13, 15, or whether it fits.
+pub fn check(r: Recovery, history: &[u8]) -> Checked
+    ensures { λ s. ⌜ s ≡ checked r (now (history .entry)) ⌝ }
+{
+    let count = r.count;
+    let kind = r.kind;
+    let returned = r.returned;
+    let n = size(count);
+    if history.len() < 16 * n {
+        return Checked::Refused(13);
+    }
+    if checks::off_roster(history, count) {
+        return Checked::Refused(15);
+    }
+    if checks::fits(kind, &r.rows, returned, count, history) {
+        return Checked::Fits;
+    }
+    Checked::FitsNot
+}
