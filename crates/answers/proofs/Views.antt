@@ -5,7 +5,7 @@ use mathlib.Core.List.{List}
 use Prim.Native.Nat.{ℕ, _<_, _≤_}
 use native.Mathlib.Omega.{arith}
 use lib.Dec.{ltb, leb}
-use borrow.Author.Tests.{ltb-true, lt-ltb, leb-true, leb-false}
+use borrow.Author.Tests.{ltb-true, lt-ltb, leb-true, leb-false, le-leb, lt-leb}
 use Rattle.places.specs.Sets.{Places, nothing, below, intersection}
 use Rattle.places.specs.PlaceSets.{has, kept}
 use Rattle.places.specs.declared.PlaceSet.{PlaceSet}
@@ -16,6 +16,14 @@ use Rattle.histories.specs.Rule.{recorded}
 use Rattle.answers.specs.Views.{size, acceptedIn}
 
 -- ---- the roster
+
+pub size-small : (count : ℕ) → count ≤ 128 → count ≡ size count
+unfolding size
+size-small count h = rw (le-leb count 128 h)
+
+pub size-large : (count : ℕ) → 128 < count → 128 ≡ size count
+unfolding size
+size-large count h = rw (lt-leb count 128 h)
 
 pub size-at-most : (count : ℕ) → size count ≤ 128
 unfolding size

@@ -2,6 +2,7 @@
 // in `returned` or in a row, are not looked at.
 ghost use mathlib.Core.Path.{_≡_};
 ghost use mathlib.Core.Bool.{not, _&&_, _||_};
+ghost use Prim.Native.Nat.{_≤_};
 ghost use Rattle.places.specs.Sets as sets;
 ghost use Rattle.places.specs.PlaceSets.{has};
 ghost use Rattle.rows.specs.Rows.{rowsOf};
@@ -19,6 +20,17 @@ pub enum Answer {
     Last,
     NotLast,
     Open,
+}
+
+// The roster's length: a count above 128 counts as 128.
+pub fn size(count: usize) -> usize
+    ensures { λ n. ⌜ n ≡ size count ⌝ }
+    ensures { λ n. ⌜ n ≤ 128 ⌝ }
+{
+    if count <= 128 {
+        return count;
+    }
+    128
 }
 
 // The places of the roster.

@@ -25,24 +25,6 @@ use Rattle.histories.specs.Rule.{reach, closedRows, fitsTest}
 use Rattle.answers.specs.Views.{size, acceptedIn}
 use Rattle.checks.specs.Checks.{offRoster}
 
--- ---- the roster's length
-
-pub size-small : (count : ℕ) → count ≤ 128 → count ≡ size count
-unfolding size
-size-small count l = rw (le-leb count 128 l)
-
-pub size-large : (count : ℕ) → 128 < count → 128 ≡ size count
-unfolding size
-size-large count l = rw (lt-leb count 128 l)
-
-pub size-bound : (count n : ℕ) → n ≡ size count → n ≤ 128
-unfolding size
-size-bound count n e = rw e (go (leb count 128) refl)
-  where
-    go : (b : Bool) → leb count 128 ≡ b → cond b count 128 ≤ 128
-    go true e = leb-true count 128 e
-    go false e = omega arith
-
 -- ---- loops that end at the first place where a test fails
 
 pub any-start : (S : Places) → any 0 S ≡ false

@@ -18,13 +18,6 @@ use places::Place;
 use places::PlaceSet;
 use rows::Rows;
 
-// The roster's length: no more than 128.
-fn roster_size(count: usize) -> usize
-    ensures { λ r. ⌜ r ≡ size count ⌝ }
-{
-    if count <= 128 { count } else { 128 }
-}
-
 // Whether the row of a place of the roster has a place off it.
 fn row_off_roster(history: &[u8], n: usize, p: usize) -> bool
     requires { ⌜ (n ≤ 128) × (p < n) ⌝ }
@@ -39,7 +32,7 @@ fn row_off_roster(history: &[u8], n: usize, p: usize) -> bool
 pub fn off_roster(history: &[u8], count: usize) -> bool
     ensures { λ r. ⌜ r ≡ offRoster (size count) (historyIn (size count) (now (history .entry))) ⌝ }
 {
-    let n = roster_size(count);
+    let n = answers::size(count);
     let mut p = 0;
     while p < n {
         if row_off_roster(history, n, p) {
@@ -209,7 +202,7 @@ fn sound_short(table: Rows, n: usize) -> bool
 pub fn fits(kind: Kind, rows: &Rows, returned: PlaceSet, count: usize, history: &[u8]) -> bool
     ensures { λ r. ⌜ r ≡ fitsTest kind (size count) (acceptedIn count (has returned) (now (rows .entry))) (historyIn (size count) (now (history .entry))) ⌝ }
 {
-    let n = roster_size(count);
+    let n = answers::size(count);
     let table = load(history, n);
     if !all_recorded(&table, rows, returned, n) {
         return false;

@@ -26,8 +26,8 @@ use Rattle.recovery.specs.declared.Recovery.{Recovery}
 use Rattle.recovery.specs.declared.Opening as recovery
 use Rattle.recovery.specs.declared.Opening.the-variants as R
 use Rattle.recovery.specs.declared.Opened.{Opened}
-use Rattle.recovery.specs.declared.Reply.{Reply}
-use Rattle.recovery.specs.declared.Reply.the-variants as O
+use Rattle.replies.specs.declared.Reply.{Reply}
+use Rattle.replies.specs.declared.Reply.the-variants as O
 use Rattle.recovery.specs.declared.Asked.{Asked}
 use Rattle.recovery.specs.Contracts.{acceptedOf, unopened, openedAs, opened, offered}
 use Rattle.recovery.specs.Demand as D

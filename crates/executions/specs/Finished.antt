@@ -9,7 +9,7 @@ use lib.ListN.{length}
 use Rattle.histories.specs.Histories.{Last}
 use Rattle.records.specs.Layout.{layout}
 use Rattle.recovery.specs.declared.Recovery.{Recovery}
-use Rattle.recovery.specs.declared.Reply.the-variants as O
+use Rattle.replies.specs.declared.Reply.the-variants as O
 use Rattle.recovery.specs.declared.Asked.the-variants as A
 use Rattle.recovery.specs.Contracts.{offered, asked}
 use Rattle.executions.specs.declared.Day.{Day}

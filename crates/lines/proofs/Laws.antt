@@ -16,8 +16,8 @@ use Rattle.records.specs.declared.Writing.the-variants as W
 use Rattle.records.specs.Records.{unwritten, putAt, writtenAt}
 use Rattle.recovery.specs.declared.Asked.{Asked}
 use Rattle.recovery.specs.declared.Asked.the-variants as A
-use Rattle.recovery.specs.declared.Reply.{Reply}
-use Rattle.recovery.specs.declared.Reply.the-variants as O
+use Rattle.replies.specs.declared.Reply.{Reply}
+use Rattle.replies.specs.declared.Reply.the-variants as O
 use Rattle.lines.specs.Lines.{ascii, digits, decimal, line, offerWords, recordLine, answerWords, placeLine, wholeLine, noneLine}
 use Rattle.lines.specs.Fronts.{front}
 

@@ -5,8 +5,8 @@ use Prim.Native.Nat.{ℕ, zero, suc, _+_, _/_, _%_}
 use Prim.Native.String as S
 use Prim.Native.Char.{code}
 use lib.Dec.{ltb}
-use Rattle.recovery.specs.declared.Reply.{Reply}
-use Rattle.recovery.specs.declared.Reply.the-variants as O
+use Rattle.replies.specs.declared.Reply.{Reply}
+use Rattle.replies.specs.declared.Reply.the-variants as O
 use Rattle.recovery.specs.declared.Asked.{Asked}
 use Rattle.recovery.specs.declared.Asked.the-variants as A
 

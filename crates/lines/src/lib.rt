@@ -9,7 +9,7 @@ ghost use Rattle.lines.specs.Fronts.{front};
 ghost use Rattle.lines.specs.Lines.{ascii, decimal, line, recordLine, placeLine, wholeLine, noneLine};
 use records::Writing;
 use recovery::Asked;
-use recovery::Reply;
+use replies::Reply;
 use rosters::Serial;
 
 // The line of the record with this number, from 1.

@@ -1,5 +1,5 @@
 -- What each call gives, case by case: one law for each case, as the code meets it. Assumes nothing.
-use mathlib.Core.Path.{_≡_, sym, ap, ap₂, _∙_}
+use mathlib.Core.Path.{_≡_, refl, sym, ap, ap₂, _∙_}
 use mathlib.Core.Bool.{Bool, true, false, cond, _&&_}
 use mathlib.Core.Logic.{_⊎_, inl, inr}
 use mathlib.Core.List.{List}
@@ -8,7 +8,7 @@ use lib.ListN.{length}
 use lib.Dec.{leb, ltb}
 use borrow.Author.Tests.{lt-ltb, le-ltb, le-leb, lt-leb}
 use Rattle.places.specs.Sets.{same, count}
-use Rattle.places.specs.PlaceSets.{found}
+use Rattle.places.specs.PlaceSets.{has, found}
 use Rattle.places.specs.declared.Found.the-variants.{At, Nothing}
 use Rattle.places.proofs.Booleans.{clash, is-false, and-intro, and-left, and-right}
 use Rattle.histories.specs.Histories.{Row}
@@ -19,12 +19,14 @@ use Rattle.records.specs.declared.Writing.the-variants as W
 use Rattle.records.specs.Layout.{got, refused, Stored, lone, layout}
 use Rattle.records.specs.Records.{sameList, putAt, unwritten, writtenAt}
 use Rattle.recovery.specs.declared.Recovery.{Recovery}
-use Rattle.recovery.specs.declared.Reply.the-variants as O
+use Rattle.replies.specs.declared.Reply.the-variants as O
+use Rattle.replies.specs.Replies.{sameKind}
+use Rattle.replies.proofs.Laws.{entering-back, entering-new}
 use Rattle.recovery.specs.declared.Asked.the-variants as A
 use Rattle.recovery.specs.declared.Showing.the-variants as S
 use Rattle.recovery.specs.declared.Checked.the-variants as C
 use Rattle.checks.specs.Checks.{offRoster}
-use Rattle.recovery.specs.Contracts.{sizeOf, rosterOf, acceptedOf, sameKind, ofGroup, saying, keeping, again, newly, entered, judged, offeredAs, offered, answerAt, askedAs, asked, Shown, unshown, shownOpen, shownAs, shown, checkedRows, checked, settledOf, unmournedOf, unmournedAbsentOf, unmournedCountOf, foundIn, recordOf, writtenOf}
+use Rattle.recovery.specs.Contracts.{sizeOf, rosterOf, acceptedOf, ofGroup, saying, keeping, answered, entered, judged, offeredAs, offered, answerAt, askedAs, asked, Shown, unshown, shownOpen, shownAs, shown, checkedRows, checked, settledOf, unmournedOf, unmournedAbsentOf, unmournedCountOf, foundIn, recordOf, writtenOf}
 use Rattle.recovery.proofs.Facts.{same-kind-elim, same-kind-self, same-list-elim, same-list-self}
 
 -- ---- offering
@@ -61,19 +63,29 @@ module _ (r : Recovery) {n : ℕ} (is : sizeOf r ≡ n) where
   module _ (p : ℕ) (M : Row) where
     -- of one that is back
     pub entered-again : acceptedOf r .returned p ≡ true → (t : Bool) → same n M (acceptedOf r .row p) ≡ t → entered r p M ≡ saying r (cond t O.Repeated (O.Refused 10))
-    unfolding entered again
+    unfolding entered answered acceptedOf sizeOf
     entered-again b t e =
-        ap (λ (c : Bool). cond c (again r p M) (newly r p M)) b ∙ ap (λ (m : ℕ). saying r (cond (same m M (acceptedOf r .row p)) O.Repeated (O.Refused 10))) is
-        ∙ ap (λ (c : Bool). saying r (cond c O.Repeated (O.Refused 10))) e
+        ap (answered r p M) (sym (entering-back (r .kind) (r .count) (has (r .returned)) (r .rows) p M b))
+        ∙ ap (λ (m : ℕ). answered r p M (cond (same m M (acceptedOf r .row p)) O.Repeated (O.Refused 10))) is
+        ∙ ap (λ (c : Bool). answered r p M (cond c O.Repeated (O.Refused 10))) e ∙ left t
+      where
+        left : (t : Bool) → answered r p M (cond t O.Repeated (O.Refused 10)) ≡ saying r (cond t O.Repeated (O.Refused 10))
+        left true = refl
+        left false = refl
 
     -- of another
     pub entered-new : acceptedOf r .returned p ≡ false → (t : Bool) → accepts (r .kind) n (acceptedOf r) p M ≡ t
         → entered r p M ≡ cond t (record { answer = O.Taken; recovery = keeping r p M }) (saying r (O.Refused 11))
-    unfolding entered newly
+    unfolding entered answered acceptedOf sizeOf
     entered-new b t e =
-        ap (λ (c : Bool). cond c (again r p M) (newly r p M)) b
-        ∙ ap (λ (m : ℕ). cond (accepts (r .kind) m (acceptedOf r) p M) (record { answer = O.Taken; recovery = keeping r p M }) (saying r (O.Refused 11))) is
-        ∙ ap (λ (c : Bool). cond c (record { answer = O.Taken; recovery = keeping r p M }) (saying r (O.Refused 11))) e
+        ap (answered r p M) (sym (entering-new (r .kind) (r .count) (has (r .returned)) (r .rows) p M b _ refl))
+        ∙ ap (λ (m : ℕ). answered r p M (cond (accepts (r .kind) m (acceptedOf r) p M) O.Taken (O.Refused 11))) is
+        ∙ ap (λ (c : Bool). answered r p M (cond c O.Taken (O.Refused 11))) e ∙ left t
+      where
+        left : (t : Bool)
+            → answered r p M (cond t O.Taken (O.Refused 11)) ≡ cond t (record { answer = O.Taken; recovery = keeping r p M }) (saying r (O.Refused 11))
+        left true = refl
+        left false = refl
 
   -- ---- asking
 

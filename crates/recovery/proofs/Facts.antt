@@ -21,7 +21,7 @@ use Rattle.records.specs.Records.{sameList, putAt}
 use Rattle.records.proofs.Layouts.{Whole, stored-back, drop-put}
 use Rattle.records.proofs.Trips.{lone-back}
 use Rattle.checks.specs.Checks.{offRoster}
-use Rattle.recovery.specs.Contracts.{sameKind}
+use Rattle.replies.specs.Replies.{sameKind}
 
 -- ---- kinds and lists, compared
 

@@ -40,16 +40,6 @@ use Rattle.recovery.specs.declared.Showing.the-variants as S
 use Rattle.recovery.specs.declared.Checked.the-variants as C
 use Rattle.recovery.specs.Contracts.{sizeOf, rosterOf, acceptedOf, fresh, unopened, openedAs, opened, keeping, answerAt, askedAs, asked, Shown, unshown, shownOpen, shownAs, shown, checkedRows, checked, unmournedOf, unmournedAbsentOf, unmournedCountOf}
 
--- ---- the roster's length
-
-pub size-small : (count : ℕ) → count ≤ 128 → count ≡ size count
-unfolding size
-size-small count h = rw (le-leb count 128 h)
-
-pub size-large : (count : ℕ) → 128 < count → 128 ≡ size count
-unfolding size
-size-large count h = rw (lt-leb count 128 h)
-
 -- ---- opening
 
 -- one serial more is in its place

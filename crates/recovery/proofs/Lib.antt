@@ -1,7 +1,7 @@
 -- `Demand` has demand 3 and the invariant, `Single` that one outcome is dictated, `Trips` what is read, written, shown and checked;
--- `Listing` computes document 01's example, and `Refuses` shows that nothing else is dictated there. `Calls` has a law for each
+-- `Acceptance` computes document 01's example, and `Refuses` shows that nothing else is dictated there. `Calls` has a law for each
 -- case of each call. The rest serves these.
-pub mod Listing
+pub mod Acceptance
 pub mod Opens
 pub mod Keeps
 pub mod Facts
@@ -11,3 +11,4 @@ pub mod Single
 pub mod Trips
 pub mod Refuses
 pub mod Gives
+pub mod Offers

@@ -17,7 +17,7 @@ use Rattle.rosters.proofs.Laws.{listed-sound}
 use Rattle.records.specs.Layout.{kindOf}
 use Rattle.records.proofs.Layouts.{AllBytes}
 use Rattle.recovery.specs.Demand.{Free, Outcome, says, lent, lent-one, places, number, Whole}
-use Rattle.recovery.proofs.Listing.{serials, group, record-101, record-104, row, first-rows, second-rows, outcomeOf, callOf, lines, listing}
+use Rattle.recovery.proofs.Acceptance.{serials, group, record-101, record-104, row, first-rows, second-rows, outcomeOf, callOf, lines, listing}
 use Rattle.recovery.proofs.Demand.{demand-3}
 use Rattle.recovery.proofs.Single.{plain, InBytes, AllInBytes, single-whole}
 

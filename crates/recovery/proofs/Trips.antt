@@ -17,8 +17,8 @@ use Rattle.records.specs.Records.{readingOf, reading, putAt, Written}
 use Rattle.records.proofs.Layouts.{AllBytes, IsStored, drop-put}
 use Rattle.records.proofs.Trips.{read-layout, lone-layout, read-back}
 use Rattle.recovery.specs.declared.Recovery.{Recovery}
-use Rattle.recovery.specs.declared.Reply.{Reply}
-use Rattle.recovery.specs.declared.Reply.the-variants as O
+use Rattle.replies.specs.declared.Reply.{Reply}
+use Rattle.replies.specs.declared.Reply.the-variants as O
 use Rattle.recovery.specs.declared.Showing.{Showing}
 use Rattle.recovery.specs.declared.Showing.the-variants as S
 use Rattle.recovery.specs.declared.Checked.{Checked}

@@ -5,14 +5,14 @@ use mathlib.Core.List.{List, [], _∷_, _++_}
 use Prim.Native.Nat.{ℕ, _+_, _-_, _*_}
 use lib.ListN.{length, take, replicate}
 use lib.Dec.{leb, ltb}
-use Rattle.places.specs.Sets.{nothing, with, same}
+use Rattle.places.specs.Sets.{nothing, with}
 use Rattle.places.specs.PlaceSets.{has, packed, found}
 use Rattle.places.specs.declared.PlaceSet.{PlaceSet}
 use Rattle.places.specs.declared.Found.{Found}
 use Rattle.histories.specs.declared.Kind.{Kind}
-use Rattle.histories.specs.declared.Kind.the-variants.{Full, Short}
+use Rattle.histories.specs.declared.Kind.the-variants.{Full}
 use Rattle.histories.specs.Histories.{Row, History, Accepted}
-use Rattle.histories.specs.Rule.{Answer, is-last, not-last, is-open, answer, recorded, second, accepts, fitsTest, settled, unmourned, unmournedAbsent, unmournedCount}
+use Rattle.histories.specs.Rule.{Answer, is-last, not-last, is-open, answer, recorded, second, fitsTest, settled, unmourned, unmournedAbsent, unmournedCount}
 use Rattle.rosters.specs.Rosters.{placeOf, listed}
 use Rattle.rosters.specs.declared.Listed.{Listed}
 use Rattle.rosters.specs.declared.Listed.the-variants as L
@@ -21,12 +21,13 @@ use Rattle.records.specs.Layout.{Parsed, got, refused, knownKind, kindOf, kindB
 use Rattle.records.specs.Records.{sameList, Written, unwritten, writtenAt}
 use Rattle.answers.specs.Views.{size, acceptedIn}
 use Rattle.checks.specs.Checks.{offRoster}
+use Rattle.replies.specs.Replies.{sameKind, entering}
 use Rattle.recovery.specs.declared.Recovery.{Recovery}
 use Rattle.recovery.specs.declared.Opening.{Opening}
 use Rattle.recovery.specs.declared.Opening.the-variants as G
 use Rattle.recovery.specs.declared.Opened.{Opened}
-use Rattle.recovery.specs.declared.Reply.{Reply}
-use Rattle.recovery.specs.declared.Reply.the-variants as O
+use Rattle.replies.specs.declared.Reply.{Reply}
+use Rattle.replies.specs.declared.Reply.the-variants as O
 use Rattle.recovery.specs.declared.Offered.{Offered}
 use Rattle.recovery.specs.declared.Asked.{Asked}
 use Rattle.recovery.specs.declared.Asked.the-variants as A
@@ -68,12 +69,6 @@ opened kind s = cond (knownKind kind) (openedAs (kindOf kind) s (listed s)) (uno
 -- ---- offering: 1 to 8, 9, repeated or 10, 11 or taken
 
 -- the record is of this group: its kind and its roster are the recovery's, order included
-unfoldable pub sameKind : Kind → Kind → Bool
-sameKind Full Full = true
-sameKind Full Short = false
-sameKind Short Full = false
-sameKind Short Short = true
-
 unfoldable pub ofGroup : Recovery → Stored → Bool
 ofGroup r x = sameKind (x .kind) (r .kind) && sameList (x .roster) (rosterOf r)
 
@@ -91,20 +86,15 @@ keeping r p M = record {
   rows = withRow (r .rows) p (packed M);
 }
 
--- of one that is back
-unfoldable pub again : Recovery → ℕ → Row → Offered
-again r p M = saying r (cond (same (sizeOf r) M (acceptedOf r .row p)) O.Repeated (O.Refused 10))
-
--- of another
-unfoldable pub newly : Recovery → ℕ → Row → Offered
-newly r p M =
-    cond (accepts (r .kind) (sizeOf r) (acceptedOf r) p M)
-    (record { answer = O.Taken; recovery = keeping r p M })
-    (saying r (O.Refused 11))
+-- what a reply to the record of p leaves: one that is taken is kept, otherwise the recovery stays as it is
+unfoldable pub answered : Recovery → ℕ → Row → Reply → Offered
+answered r p M O.Taken = record { answer = O.Taken; recovery = keeping r p M }
+answered r p M O.Repeated = saying r O.Repeated
+answered r p M (O.Refused j) = saying r (O.Refused j)
 
 -- a record of the group: of p, with the mourned set M
 unfoldable pub entered : Recovery → ℕ → Row → Offered
-entered r p M = cond (acceptedOf r .returned p) (again r p M) (newly r p M)
+entered r p M = answered r p M (entering (r .kind) (r .count) (has (r .returned)) (r .rows) p M)
 
 -- a sound record
 unfoldable pub judged : Recovery → Stored → Offered

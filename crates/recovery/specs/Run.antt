@@ -10,8 +10,8 @@ use Rattle.records.specs.Records.{Written}
 use Rattle.recovery.specs.declared.Recovery.{Recovery}
 use Rattle.recovery.specs.declared.Opening.{Opening}
 use Rattle.recovery.specs.declared.Opening.the-variants as G
-use Rattle.recovery.specs.declared.Reply.{Reply}
-use Rattle.recovery.specs.declared.Reply.the-variants as O
+use Rattle.replies.specs.declared.Reply.{Reply}
+use Rattle.replies.specs.declared.Reply.the-variants as O
 use Rattle.recovery.specs.declared.Asked.{Asked}
 use Rattle.recovery.specs.declared.Asked.the-variants as A
 use Rattle.recovery.specs.declared.Showing.{Showing}

@@ -12,13 +12,17 @@ ghost use Rattle.rosters.specs.Rosters.{listed};
 ghost use Rattle.rows.specs.Rows.{laid};
 ghost use Rattle.histories.specs.Rule as rule;
 ghost use Rattle.answers.specs.Views as views;
+ghost use Rattle.replies.specs.Replies.{judgement};
 ghost use Rattle.recovery.specs.Contracts as contracts;
-ghost use Rattle.recovery.specs.Contracts.{opened, openedAs, keeping, asked, shown, shownOpen, answerAt, checked, settledOf, unmournedOf, unmournedAbsentOf, unmournedCountOf, foundIn};
+ghost use Rattle.recovery.specs.Contracts.{opened, openedAs, saying, keeping, answered, offered, asked, shown, shownOpen, answerAt, checked, settledOf, unmournedOf, unmournedAbsentOf, unmournedCountOf, foundIn};
 use answers::Answer;
 use histories::Kind;
 use places::Found;
 use places::Place;
 use places::PlaceSet;
+use records::Reading;
+use records::Record;
+use replies::Reply;
 use rosters::Listed;
 use rosters::Serial;
 use rows::Rows;
@@ -41,12 +45,6 @@ pub enum Opening {
 pub struct Opened {
     pub answer: Opening,
     pub recovery: Recovery,
-}
-
-pub enum Reply {
-    Taken,
-    Repeated,
-    Refused(u8),
 }
 
 // What offering gives: where nothing was taken, the recovery is as it was.
@@ -72,17 +70,6 @@ pub enum Checked {
     Fits,
     FitsNot,
     Refused(u8),
-}
-
-// The roster's length: a count above 128 counts as 128.
-fn size(count: usize) -> usize
-    ensures { λ n. ⌜ n ≡ views.size count ⌝ }
-    ensures { λ n. ⌜ n ≤ 128 ⌝ }
-{
-    if count <= 128 {
-        return count;
-    }
-    128
 }
 
 // A list of serials with zeros after them.
@@ -175,6 +162,56 @@ pub fn keep(r: Recovery, own: Place, mourned: PlaceSet) -> Recovery
     next
 }
 
+// What offering says where the recovery stays as it is.
+fn say(r: Recovery, answer: Reply) -> Offered
+    ensures { λ s. ⌜ s ≡ saying r answer ⌝ }
+{
+    Offered {
+        answer,
+        recovery: r,
+    }
+}
+
+// What an answer to a record leaves.
+fn apply(r: Recovery, own: Place, mourned: PlaceSet, answer: Reply) -> Offered
+    ensures { λ s. ⌜ s ≡ answered r (own .0) (has mourned) answer ⌝ }
+{
+    match answer {
+        Reply::Taken => {
+            let next = keep(r, own, mourned);
+            Offered {
+                answer: Reply::Taken,
+                recovery: next,
+            }
+        }
+        Reply::Repeated => say(r, Reply::Repeated),
+        Reply::Refused(fault) => say(r, Reply::Refused(fault)),
+    }
+}
+
+// A lone record that was read.
+fn offer_read(r: Recovery, bytes: &[u8], x: Record) -> Offered
+    ensures { λ s. ⌜ s ≡ answered r (x .own .0) (has (x .mourned)) (judgement (r .kind) (r .count) (r .serials) (has (r .returned)) (r .rows) (now (bytes .entry)) x) ⌝ }
+{
+    let kind = r.kind;
+    let returned = r.returned;
+    let answer = replies::judge(kind, r.count, &r.serials, returned, &r.rows, bytes, x);
+    let own = x.own;
+    let mourned = x.mourned;
+    apply(r, own, mourned, answer)
+}
+
+// Offers a lone record: 1 to 8, 9, repeated or 10, 11, or taken.
+pub fn offer(r: Recovery, bytes: &[u8]) -> Offered
+    ensures { λ s. ⌜ s ≡ offered r (now (bytes .entry)) ⌝ }
+{
+    let got = records::read_lone(bytes);
+    match got {
+        Reading::Read(x) => offer_read(r, bytes, x),
+        Reading::Refused(fault) => say(r, Reply::Refused(fault)),
+    }
+}
+
 // Asks for a place: 12, or the answer.
 pub fn ask(r: Recovery, place: Place) -> Asked
     ensures { λ s. ⌜ s ≡ asked r (place .0) ⌝ }
@@ -182,7 +219,7 @@ pub fn ask(r: Recovery, place: Place) -> Asked
     let count = r.count;
     let kind = r.kind;
     let returned = r.returned;
-    let n = size(count);
+    let n = answers::size(count);
     if n <= place.0 {
         return Asked::Refused(12);
     }
@@ -198,7 +235,7 @@ pub fn ask(r: Recovery, place: Place) -> Asked
 pub fn find(r: Recovery, serial: Serial) -> Found
     ensures { λ s. ⌜ s ≡ foundIn r (serial .0) ⌝ }
 {
-    let n = size(r.count);
+    let n = answers::size(r.count);
     let serials = r.serials;
     rosters::find(&serials[..n], serial)
 }
@@ -244,7 +281,7 @@ pub fn check(r: Recovery, history: &[u8]) -> Checked
     let count = r.count;
     let kind = r.kind;
     let returned = r.returned;
-    let n = size(count);
+    let n = answers::size(count);
     if history.len() < 16 * n {
         return Checked::Refused(13);
     }

@@ -7,7 +7,7 @@ use lib.Dec.{leb}
 use borrow.Author.Needs.{needs}
 use Rattle.places.specs.Sets.{any, count}
 use Rattle.rows.specs.Rows.{historyIn}
-use Rattle.checks.proofs.Laws.{size-bound, any-start, any-next, off-found, off-none}
+use Rattle.checks.proofs.Laws.{any-start, any-next, off-found, off-none}
 use Rattle.checks.proofs.off_roster.Statement.{statement}
 use Rattle.checks.proofs.off_roster.Tie as tie
 
@@ -17,17 +17,17 @@ Inv-loop history count n p₀ p = (p ≤ n) × (any p (λ p. any 128 (λ q. leb 
 abbrev μ-loop : tie.MeasureT-loop
 μ-loop history count n p₀ p = n - p
 
-roster-size-requires : tie.Need-roster-size-requires Inv-loop μ-loop
-roster-size-requires c κs = search needs
+size-requires : tie.Need-size-requires Inv-loop μ-loop
+size-requires c κs = search needs
 
 loop-holds : tie.Need-loop-holds Inv-loop μ-loop
 loop-holds c = (omega arith, any-start _)
 
 row-off-roster-requires : tie.Need-row-off-roster-requires Inv-loop μ-loop
-row-off-roster-requires c κs = (size-bound _ _ (c .before .before .roster-size .ensures), search needs)
+row-off-roster-requires c κs = (c .before .before .size .ensures .1, search needs)
 
 returns : tie.Need-returns Inv-loop μ-loop
-returns c = off-found _ _ _ _ (c .before .before .before .before .roster-size .ensures) (c .before .before .loop-test .taken) (sym (c .before .row-off-roster .ensures) ∙ c .if1 .taken)
+returns c = off-found _ _ _ _ (c .before .before .before .before .size .ensures .0) (c .before .before .loop-test .taken) (sym (c .before .row-off-roster .ensures) ∙ c .if1 .taken)
 
 add-p : tie.Need-add-p Inv-loop μ-loop
 add-p c = search needs
@@ -39,7 +39,7 @@ loop-again : tie.Need-loop-again Inv-loop μ-loop
 loop-again c = (omega arith, any-next _ _ (sym (c .before .row-off-roster .ensures) ∙ c .if1 .left) (c .before .before .before .loop .inv .1))
 
 returns-2 : tie.Need-returns-2 Inv-loop μ-loop
-returns-2 c = off-none _ _ _ _ (c .before .before .roster-size .ensures) (c .before .loop .inv .0) (c .loop-test .left) (c .before .loop .inv .1)
+returns-2 c = off-none _ _ _ _ (c .before .before .size .ensures .0) (c .before .loop .inv .0) (c .loop-test .left) (c .before .loop .inv .1)
 
 pub off-roster-spec : {M : Type 1} → statement M
 off-roster-spec =
@@ -47,7 +47,7 @@ off-roster-spec =
     (tie.spec
     Inv-loop
     μ-loop
-    roster-size-requires
+    size-requires
     loop-holds
     row-off-roster-requires
     returns

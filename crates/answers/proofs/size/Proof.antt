@@ -1,8 +1,8 @@
--- `recovery::size` meets its contract. Assumes nothing.
+-- `answers::size` meets its contract. Assumes nothing.
 use native.Mathlib.Omega.{arith}
-use Rattle.recovery.proofs.Gives.{size-small, size-large}
-use Rattle.recovery.proofs.size.Statement.{statement}
-use Rattle.recovery.proofs.size.Tie as tie
+use Rattle.answers.proofs.Views.{size-small, size-large}
+use Rattle.answers.proofs.size.Statement.{statement}
+use Rattle.answers.proofs.size.Tie as tie
 
 returns : tie.Need-returns
 returns c = (size-small _ (c .if1 .taken), omega arith)

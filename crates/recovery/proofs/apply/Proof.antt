@@ -1,7 +1,7 @@
 -- `recovery::apply` meets its contract. Assumes nothing.
 use mathlib.Core.Path.{_∙_}
 use borrow.Author.Needs.{needs}
-use Rattle.recovery.proofs.Entering.{answered-taken, answered-repeated, answered-refused}
+use Rattle.recovery.proofs.Offers.{answered-taken, answered-repeated, answered-refused}
 use Rattle.recovery.proofs.apply.Statement.{statement}
 use Rattle.recovery.proofs.apply.Tie as tie
 

@@ -1,18 +1,15 @@
--- `recovery::judge` meets its contract. Assumes nothing.
+-- `replies::judge` meets its contract. Assumes nothing.
 use mathlib.Core.Path.{sym, ap, _∙_}
 use native.Mathlib.Omega.{arith}
 use borrow.Author.Needs.{needs}
 use lib.Seq.{length-take-le}
 use borrow.Author.Tests.{not-true, not-false}
-use Rattle.recovery.proofs.Entering.{take-least, judged-kind, judged-roster, judged-entering}
-use Rattle.recovery.proofs.judge.Statement.{statement}
-use Rattle.recovery.proofs.judge.Tie as tie
+use Rattle.replies.proofs.Laws.{judged-kind, judged-roster, judged-entering}
+use Rattle.replies.proofs.judge.Statement.{statement}
+use Rattle.replies.proofs.judge.Tie as tie
 
-size-requires : tie.Need-size-requires
-size-requires c κs = search needs
-
-least-requires : tie.Need-least-requires
-least-requires c κs = search needs
+roster-length-requires : tie.Need-roster-length-requires
+roster-length-requires c κs = search needs
 
 same-kind-requires : tie.Need-same-kind-requires
 same-kind-requires c κs = search needs
@@ -21,7 +18,7 @@ returns : tie.Need-returns
 returns c = judged-kind _ _ _ _ _ _ _ (sym (c .before .same-kind .ensures) ∙ not-true _ (c .if1 .taken))
 
 slice-aggregate-roster-is : tie.Need-slice-aggregate-roster-is
-slice-aggregate-roster-is c = sym (length-take-le _ _ (c .before .before .before .least .ensures .low .1))
+slice-aggregate-roster-is c = sym (length-take-le _ _ (c .before .before .before .roster-length .ensures .0))
 
 roster-is-requires : tie.Need-roster-is-requires
 roster-is-requires c κs = search needs
@@ -29,7 +26,7 @@ roster-is-requires c κs = search needs
 returns-2 : tie.Need-returns-2
 returns-2 c =
     let i = c .before .before .before in
-    judged-roster _ _ _ _ _ _ _ (sym (i .before .same-kind .ensures) ∙ not-false _ (i .if1 .left)) _ ? (sym (c .before .roster-is .ensures) ∙ not-true _ (c .if2 .taken))
+    judged-roster _ _ _ _ _ _ _ (sym (i .before .same-kind .ensures) ∙ not-false _ (i .if1 .left)) _ (c .before .before .before .before .before .roster-length .ensures .1) (sym (c .before .roster-is .ensures) ∙ not-true _ (c .if2 .taken))
 
 enter-requires : tie.Need-enter-requires
 enter-requires c κs = search needs
@@ -38,14 +35,13 @@ returns-3 : tie.Need-returns-3
 returns-3 c =
     let o = c .before .before .before in
     let i = o .before .before .before in
-    c .enter .ensures ∙ judged-entering _ _ _ _ _ _ _ (sym (i .before .same-kind .ensures) ∙ not-false _ (i .if1 .left)) _ ? (sym (o .before .roster-is .ensures) ∙ not-false _ (o .if2 .left))
+    c .enter .ensures ∙ judged-entering _ _ _ _ _ _ _ (sym (i .before .same-kind .ensures) ∙ not-false _ (i .if1 .left)) _ (i .before .before .roster-length .ensures .1) (sym (o .before .roster-is .ensures) ∙ not-false _ (o .if2 .left))
 
 pub judge-spec : {M : Type 1} → statement M
 judge-spec =
     tie.close
     (tie.spec
-    size-requires
-    least-requires
+    roster-length-requires
     same-kind-requires
     returns
     slice-aggregate-roster-is

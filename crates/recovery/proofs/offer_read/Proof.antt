@@ -1,7 +1,7 @@
 -- `recovery::offer_read` meets its contract. Assumes nothing.
 use mathlib.Core.Path.{ap, _∙_}
 use borrow.Author.Needs.{needs}
-use Rattle.recovery.specs.Parts.{answered}
+use Rattle.recovery.specs.Contracts.{answered}
 use Rattle.recovery.proofs.offer_read.Statement.{statement}
 use Rattle.recovery.proofs.offer_read.Tie as tie
 
@@ -12,7 +12,7 @@ apply-requires : tie.Need-apply-requires
 apply-requires c κs = search needs
 
 returns : tie.Need-returns
-returns c = c .apply .ensures ∙ ap (answered _ _ _) ?
+returns c = c .apply .ensures ∙ ap (answered _ _ _) (c .before .before .before .judge .ensures)
 
 pub offer-read-spec : {M : Type 1} → statement M
 offer-read-spec = tie.close (tie.spec judge-requires apply-requires returns)

@@ -1,11 +1,11 @@
--- `recovery::again` meets its contract. Assumes nothing.
+-- `replies::again` meets its contract. Assumes nothing.
 use mathlib.Core.Path.{sym, ap, _∙_}
 use mathlib.Core.Bool.{Bool, cond}
 use borrow.Author.Needs.{needs}
-use Rattle.recovery.specs.declared.Reply.the-variants as O
-use Rattle.recovery.proofs.Entering.{same-cut}
-use Rattle.recovery.proofs.again.Statement.{statement}
-use Rattle.recovery.proofs.again.Tie as tie
+use Rattle.replies.specs.declared.Reply.the-variants as O
+use Rattle.replies.proofs.Laws.{same-cut}
+use Rattle.replies.proofs.again.Statement.{statement}
+use Rattle.replies.proofs.again.Tie as tie
 
 below-requires : tie.Need-below-requires
 below-requires c κs = search needs

@@ -1,9 +1,9 @@
--- `recovery::same_kind` meets its contract. Assumes nothing.
+-- `replies::same_kind` meets its contract. Assumes nothing.
 use mathlib.Core.Path.{sym, ap₂}
 use borrow.Author.Needs.{needs}
-use Rattle.recovery.specs.Contracts.{sameKind}
-use Rattle.recovery.proofs.same_kind.Statement.{statement}
-use Rattle.recovery.proofs.same_kind.Tie as tie
+use Rattle.replies.specs.Replies.{sameKind}
+use Rattle.replies.proofs.same_kind.Statement.{statement}
+use Rattle.replies.proofs.same_kind.Tie as tie
 
 enum-told : tie.Need-enum-told
 enum-told c = search needs

@@ -1,0 +1,90 @@
+-- Offering, by its parts: what a reply leaves, and that judging the parts of a recovery is judging the whole. Assumes nothing.
+use mathlib.Core.Path.{_≡_, refl, sym, ap, ap₂, _∙_, subst}
+use mathlib.Core.Bool.{Bool, true, false, cond, _&&_}
+use mathlib.Core.List.{List}
+use Prim.Native.Nat.{ℕ, _+_, _-_, _*_}
+use native.Mathlib.Omega.{arith}
+use lib.ListN.{length, take, drop}
+use borrow.Author.Tests.{le-leb}
+use Rattle.places.specs.PlaceSets.{has, packed}
+use Rattle.places.proofs.Laws.{has-packed, kept-all}
+use Rattle.histories.specs.Histories.{Row}
+use Rattle.records.specs.Layout.{Parsed, got, refused, Stored, stored, lone}
+use Rattle.records.specs.declared.Record.{Record}
+use Rattle.records.specs.declared.Reading.{Reading}
+use Rattle.records.specs.declared.Reading.the-variants.{Read, Refused}
+use Rattle.records.specs.Records.{readingOf, readingLone, sameList, rosterThere, rosterIs}
+use Rattle.records.proofs.Layouts.{stored-back}
+use Rattle.records.proofs.Trips.{lone-back, serials-read, roster-within}
+use Rattle.answers.specs.Views.{size}
+use Rattle.replies.specs.declared.Reply.{Reply}
+use Rattle.replies.specs.declared.Reply.the-variants as O
+use Rattle.replies.specs.Replies.{sameKind, entering, judgement}
+use Rattle.recovery.specs.declared.Recovery.{Recovery}
+use Rattle.recovery.specs.declared.Offered.{Offered}
+use Rattle.recovery.specs.Contracts.{sizeOf, rosterOf, ofGroup, saying, keeping, answered, entered, judged, offeredAs, offered}
+use Rattle.recovery.proofs.Facts.{lone-on}
+
+pub answered-taken : (r : Recovery) (p : ℕ) (M : Row) (a : Reply) (s : Recovery) → a ≡ O.Taken → s ≡ keeping r p M → record { answer = O.Taken; recovery = s } ≡ answered r p M a
+unfolding answered
+answered-taken r p M a s e f = rw (e, f)
+
+pub answered-repeated : (r : Recovery) (p : ℕ) (M : Row) (a : Reply) → a ≡ O.Repeated → saying r O.Repeated ≡ answered r p M a
+unfolding answered
+answered-repeated r p M a e = rw e
+
+pub answered-refused : (r : Recovery) (p : ℕ) (M : Row) (a : Reply) (j : ℕ) → a ≡ O.Refused j → saying r (O.Refused j) ≡ answered r p M a
+unfolding answered
+answered-refused r p M a j e = rw e
+
+-- a record that was read: its mourned set fits two words, and its roster stands in the bytes
+module _ (b : List ℕ) (y : Stored) (rest : List ℕ) (e : lone b ≡ got y rest) where
+  here : stored (drop 0 b) ≡ got y rest
+  here = lone-back b y rest e .0
+
+  mourned-is : has (packed (y .mourned)) ≡ y .mourned
+  mourned-is =
+      has-packed (y .mourned)
+      ∙ kept-all (y .mourned) (λ q t. omega (arith, lone-on b y rest e .1 q t, stored-back b y rest (lone-back b y rest e .0) .heading .sound .few))
+
+  roster-there : (l : List ℕ) → rosterIs b 6 (length (y .roster)) l ≡ sameList (y .roster) l
+  unfolding rosterIs rosterThere
+  roster-there l =
+      ap₂ (λ (t : Bool) (s : List ℕ). t && sameList s l)
+      (le-leb (6 + length (y .roster) * 4) (length b) (omega (arith, roster-within b 0 y rest here))) (serials-read b 0 y rest here)
+
+  judged-is : (r : Recovery) (all : ℕ)
+      → answered r (y .own) (has (packed (y .mourned)))
+      (judgement (r .kind) (r .count) (r .serials) (has (r .returned)) (r .rows) b
+      (record { kind = y .kind; own = record { 0 = y .own }; roster = 6; count = length (y .roster); mourned = packed (y .mourned); next = all }))
+      ≡ judged r y
+  unfolding judgement judged ofGroup rosterOf sizeOf entered answered
+  judged-is r all =
+      ap₂ (λ (t : Bool) (M : Row). answered r (y .own) M (cond (sameKind (y .kind) (r .kind) && t) (entering (r .kind) (r .count) (has (r .returned)) (r .rows) (y .own) M) (O.Refused 9)))
+      (roster-there (take (size (r .count)) (r .serials))) mourned-is
+      ∙ go (sameKind (y .kind) (r .kind) && sameList (y .roster) (take (size (r .count)) (r .serials)))
+    where
+      go : (t : Bool) → answered r (y .own) (y .mourned) (cond t (entering (r .kind) (r .count) (has (r .returned)) (r .rows) (y .own) (y .mourned)) (O.Refused 9))
+          ≡ cond t (entered r (y .own) (y .mourned)) (saying r (O.Refused 9))
+      go true = refl
+      go false = sym (answered-refused r (y .own) (y .mourned) (O.Refused 9) 9 refl)
+
+pub offered-read : (r : Recovery) (b : List ℕ) (x : Record) → readingLone b ≡ Read x
+    → answered r (x .own .0) (has (x .mourned)) (judgement (r .kind) (r .count) (r .serials) (has (r .returned)) (r .rows) b x) ≡ offered r b
+unfolding readingLone readingOf offered offeredAs
+offered-read r b x e = go (lone b) refl e
+  where
+    go : (p : Parsed Stored) → lone b ≡ p → readingOf (length b) 0 p ≡ Read x
+        → answered r (x .own .0) (has (x .mourned)) (judgement (r .kind) (r .count) (r .serials) (has (r .returned)) (r .rows) b x) ≡ offeredAs r p
+    go (got y rest) f g =
+        let h : record { kind = y .kind; own = record { 0 = y .own }; roster = 6; count = length (y .roster); mourned = packed (y .mourned); next = length b - length rest } ≡ x = cc in
+        subst (λ (x : Record). answered r (x .own .0) (has (x .mourned)) (judgement (r .kind) (r .count) (r .serials) (has (r .returned)) (r .rows) b x) ≡ judged r y) h (judged-is b y rest f r (length b - length rest))
+    go (refused j) f g = let z : _≡_ {A = ℕ} 0 1 = cc in absurd (omega arith)
+
+pub offered-unread : (r : Recovery) (b : List ℕ) (j : ℕ) → readingLone b ≡ Refused j → saying r (O.Refused j) ≡ offered r b
+unfolding readingLone readingOf offered offeredAs
+offered-unread r b j e = go (lone b) e
+  where
+    go : (p : Parsed Stored) → readingOf (length b) 0 p ≡ Refused j → saying r (O.Refused j) ≡ offeredAs r p
+    go (got y rest) g = let z : _≡_ {A = ℕ} 0 1 = cc in absurd (omega arith)
+    go (refused i) g = let h : j ≡ i = cc in ap (λ (j : ℕ). saying r (O.Refused j)) h

@@ -1,0 +1,113 @@
+// What a group replies to a record that was read, judged by the parts of a recovery: no copy of the whole is needed.
+ghost use mathlib.Core.Path.{_≡_};
+ghost use mathlib.Core.Bool.{true, cond};
+ghost use Prim.Native.Nat.{_≤_};
+ghost use lib.ListN.{length, take};
+ghost use Rattle.places.specs.Sets as sets;
+ghost use Rattle.places.specs.PlaceSets.{has};
+ghost use Rattle.answers.specs.Views.{size, acceptedIn};
+ghost use Rattle.replies.specs.declared.Reply.the-variants as reply;
+ghost use Rattle.replies.specs.Replies.{sameKind, entering, judgement};
+use histories::Kind;
+use places::Place;
+use places::PlaceSet;
+use records::Record;
+use rows::Rows;
+
+// A record is taken, or it is the same one again, or it is refused by a number.
+pub enum Reply {
+    Taken,
+    Repeated,
+    Refused(u8),
+}
+
+// How many of the serials are the roster: no more than there are.
+fn roster_length(count: usize, serials: &[u32]) -> usize
+    ensures { λ m. ⌜ m ≤ length (now (serials .entry)) ⌝ }
+    ensures { λ m. ⌜ take m (now (serials .entry)) ≡ take (size count) (now (serials .entry)) ⌝ }
+{
+    let n = answers::size(count);
+    if n < serials.len() {
+        return n;
+    }
+    serials.len()
+}
+
+// Whether two kinds are the same.
+fn same_kind(a: Kind, b: Kind) -> bool
+    ensures { λ s. ⌜ s ≡ sameKind a b ⌝ }
+{
+    match a {
+        Kind::Full => match b {
+            Kind::Full => true,
+            Kind::Short => false,
+        },
+        Kind::Short => match b {
+            Kind::Full => false,
+            Kind::Short => true,
+        },
+    }
+}
+
+// Of one that is back: the same mourned set again, or 10.
+fn again(rows: &Rows, returned: PlaceSet, count: usize, own: Place, mourned: PlaceSet) -> Reply
+    requires { ⌜ acceptedIn count (has returned) (now rows) .returned (own .0) ≡ true ⌝ }
+    ensures { λ s. ⌜ s ≡ cond (sets.same (size count) (has mourned) (acceptedIn count (has returned) (now (rows .entry)) .row (own .0))) reply.Repeated (reply.Refused 10) ⌝ }
+{
+    let all = places::below(count);
+    let row = answers::recorded(rows, returned, count, own);
+    let named = places::intersection(all, mourned);
+    if places::same(named, row) {
+        return Reply::Repeated;
+    }
+    Reply::Refused(10)
+}
+
+// A record of the group: repeated or 10, 11, or taken.
+fn enter(
+    kind: Kind,
+    rows: &Rows,
+    returned: PlaceSet,
+    count: usize,
+    own: Place,
+    mourned: PlaceSet,
+) -> Reply
+    ensures { λ s. ⌜ s ≡ entering kind count (has returned) (now (rows .entry)) (own .0) (has mourned) ⌝ }
+{
+    let all = places::below(count);
+    let back = places::intersection(all, returned);
+    if places::contains(back, own) {
+        return again(rows, returned, count, own, mourned);
+    }
+    if answers::accepts(kind, rows, returned, count, own, mourned) {
+        return Reply::Taken;
+    }
+    Reply::Refused(11)
+}
+
+// What a record that was read from some bytes meets in a group, judged without a copy of the recovery: 9, or as a record of it.
+pub fn judge<'a>(
+    kind: Kind,
+    count: usize,
+    serials: &'a [u32],
+    returned: PlaceSet,
+    rows: &'a Rows,
+    bytes: &[u8],
+    x: Record,
+) -> Reply
+    ensures { λ s. ⌜ s ≡ judgement kind count (now (serials .entry)) (has returned) (now (rows .entry)) (now (bytes .entry)) x ⌝ }
+{
+    let n = roster_length(count, serials);
+    let theirs = x.kind;
+    if !same_kind(theirs, kind) {
+        return Reply::Refused(9);
+    }
+    let at = x.roster;
+    let m = x.count;
+    if !records::roster_is(bytes, at, m, &serials[..n]) {
+        return Reply::Refused(9);
+    }
+    let own = x.own;
+    let mourned = x.mourned;
+    enter(kind, rows, returned, count, own, mourned)
+}
