@@ -12,3 +12,4 @@ pub mod Trips
 pub mod Refuses
 pub mod Gives
 pub mod Offers
+pub mod Shows
