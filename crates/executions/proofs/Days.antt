@@ -196,13 +196,16 @@ module _ (d : Day) (p q : ℕ) (all : length (d .rows) ≡ 256) (p-on : p < size
 -- ---- any event that is allowed
 
 module _ (d : Day) (e : Event) where
-  after-stop : e .kind ≡ 1 → dayAfter d e ≡ stopping d (e .place .0)
+  pub after-stop : e .kind ≡ 1 → dayAfter d e ≡ stopping d (e .place .0)
   unfolding dayAfter
   after-stop h = cond-true _ _ (eq-eqb (e .kind) 1 h)
 
-  after-hear : e .kind ≡ 2 → dayAfter d e ≡ hearing d (e .place .0) (e .other .0)
+  pub after-other : (e .kind ≡ 1 → ⊥) → dayAfter d e ≡ hearing d (e .place .0) (e .other .0)
   unfolding dayAfter
-  after-hear h = cond-false _ _ (ne-eqb (e .kind) 1 (λ o. omega arith))
+  after-other h = cond-false _ _ (ne-eqb (e .kind) 1 h)
+
+  after-hear : e .kind ≡ 2 → dayAfter d e ≡ hearing d (e .place .0) (e .other .0)
+  after-hear h = after-other (λ o. omega arith)
 
   -- kind, roster and size stay, whatever the event
   pub after-kind : dayAfter d e .kind ≡ d .kind

@@ -1,13 +1,10 @@
 -- What each call gives, one law for each way in which the code returns. Assumes nothing.
-use mathlib.Core.Path.{_≡_, refl, sym, ap, _∙_, subst, fun-ext}
+use mathlib.Core.Path.{_≡_, refl, sym, ap, _∙_, fun-ext}
 use mathlib.Core.Bool.{Bool, true, false, not, cond, _&&_, _||_}
 use mathlib.Core.List.{List, [], _∷_, _++_}
-use Prim.Native.Nat.{ℕ, zero, suc, _+_, _-_, _*_, _≤_, _<_}
+use Prim.Native.Nat.{ℕ, _+_, _-_, _*_, _≤_, _<_}
 use native.Mathlib.Omega.{arith}
-use native.Mathlib.Nat.{sub-zero, zero-sub}
-use native.Mathlib.Numerals.{add-one}
-use lib.ListN.{length, take, drop, getD, set, replicate}
-use lib.Seq.{paste, paste-suc, take-length}
+use lib.ListN.{length, replicate}
 use lib.Dec.{eqb, leb, ltb}
 use borrow.Author.Tests.{le-leb, lt-leb, lt-ltb, le-ltb, ltb-true, eq-eqb, ne-eqb}
 use Rattle.places.specs.Sets.{Places, nothing, below, intersection, difference, with, count}
@@ -41,24 +38,6 @@ use Rattle.recovery.specs.declared.Checked.the-variants as C
 use Rattle.recovery.specs.Contracts.{sizeOf, rosterOf, acceptedOf, fresh, unopened, openedAs, opened, keeping, answerAt, askedAs, asked, Shown, unshown, shownOpen, shownAs, shown, checkedRows, checked, unmournedOf, unmournedAbsentOf, unmournedCountOf}
 
 -- ---- opening
-
--- one serial more is in its place
-pub paste-more : (d s : List ℕ) (i : ℕ) → i < length d → i < length s → set (paste d 0 s i) i (getD s i 0) ≡ paste d 0 s (i + 1)
-paste-more d s i h k =
-    let z : 0 + i ≡ i = omega arith in
-    let e : set (paste d 0 s i) (0 + i) (getD s i 0) ≡ paste d 0 s (i + 1) = rw add-one (paste-suc d 0 s i 0 (rw z h) k) in
-    subst (λ (n : ℕ). set (paste d 0 s i) n (getD s i 0) ≡ paste d 0 s (i + 1)) z e
-
-drop-replicate : (n m a : ℕ) → drop n (replicate m a) ≡ replicate (m - n) a
-drop-replicate zero m a = rw sub-zero
-drop-replicate (suc n) zero a = rw zero-sub
-drop-replicate (suc n) (suc m) a = let e : suc m - suc n ≡ m - n = omega arith in rw e (drop-replicate n m a)
-
-pub pasted-all : (s : List ℕ) (i : ℕ) → i ≤ length s → length s ≤ i → length s ≤ 128 → paste (replicate 128 0) 0 s i ≡ s ++ replicate (128 - length s) 0
-pasted-all s i h k l =
-    let e : i ≡ length s = omega arith in
-    let z : 0 + length s ≡ length s = omega arith in
-    rw (e, take-length, z, drop-replicate)
 
 -- the set with no member is the packed one
 none-packed : (e : PlaceSet) → Words e → has e ≡ nothing → e ≡ packed nothing

@@ -3,9 +3,8 @@
 // demand 3, over whole lists of calls, in specs/Demand.antt and proofs/Demand.antt.
 ghost use mathlib.Core.Path.{_≡_};
 ghost use mathlib.Core.Bool.{true, cond};
-ghost use mathlib.Core.List.{_++_};
 ghost use Prim.Native.Nat.{ℕ, _-_, _*_, _≤_, _<_};
-ghost use lib.ListN.{length, replicate};
+ghost use lib.ListN.{length};
 ghost use Rattle.places.specs.Sets as sets;
 ghost use Rattle.places.specs.PlaceSets.{has, kept};
 ghost use Rattle.rosters.specs.Rosters.{listed};
@@ -75,26 +74,12 @@ pub enum Checked {
     Refused(u8),
 }
 
-// A list of serials with zeros after them.
-fn padded(list: &[u32]) -> [u32; 128]
-    requires { ⌜ length (now list) ≤ 128 ⌝ }
-    ensures { λ s. ⌜ s ≡ now (list .entry) ++ replicate (128 - length (now (list .entry))) 0 ⌝ }
-{
-    let mut serials = [0u32; 128];
-    let mut i = 0;
-    while i < list.len() {
-        serials[i] = list[i];
-        i += 1;
-    }
-    serials
-}
-
 // A recovery with this roster, and nobody back.
 fn fresh(kind: Kind, list: &[u32]) -> Recovery
     requires { ⌜ length (now list) ≤ 128 ⌝ }
     ensures { λ r. ⌜ r ≡ contracts.fresh kind (now (list .entry)) ⌝ }
 {
-    let serials = padded(list);
+    let serials = rosters::padded(list);
     let returned = places::empty();
     let rows = rows::none();
     Recovery {

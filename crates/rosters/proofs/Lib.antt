@@ -1,3 +1,4 @@
--- `Laws` is what a crate above cites; `Marks` is for `first_repeat`.
+-- `Laws` and `Pads` are what a crate above cites; `Marks` is for `first_repeat`.
 pub mod Laws
+pub mod Pads
 pub mod Marks

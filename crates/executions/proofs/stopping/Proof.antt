@@ -1,0 +1,15 @@
+-- `executions::stopping` meets its contract. Assumes nothing.
+use native.Mathlib.Omega.{arith}
+use borrow.Author.Needs.{needs}
+use Rattle.executions.proofs.Gives.{stopping-is}
+use Rattle.executions.proofs.stopping.Statement.{statement}
+use Rattle.executions.proofs.stopping.Tie as tie
+
+with-requires : tie.Need-with-requires
+with-requires c κs = search needs
+
+returns : tie.Need-returns
+returns c = stopping-is _ _ _ (omega arith) (c .with .ensures)
+
+pub stopping-spec : {M : Type 1} → statement M
+stopping-spec = tie.close (tie.spec with-requires returns)
