@@ -26,7 +26,7 @@ returns-2 c =
     let on = c .before .before in
     let z = on .before .before in
     let a = z .before .before .before .args in
-    write-runs (a .t1) (a .place .0) (a .out .now) (a .at) _ (z .size .ensures .0) (on .if1 .left) (sym (c .before .contains .ensures) ∙ not-true _ (c .if2 .taken))
+    write-runs (a .t1) (a .place .0) (a .out .now) (a .at) _ (z .size .ensures .0) (on .if1 .left) (sym (c .before .contains .ensures) ∙ not-true (c .before .contains .result) (c .if2 .taken))
 
 heard-requires : tie.Need-heard-requires
 heard-requires c κs = search needs
@@ -56,7 +56,7 @@ returns-3 c =
     let on = stopped .before .before in
     let z = on .before .before in
     let a = z .before .before .before .args in
-    write-done (a .t1) (a .place .0) (a .out .now) (a .at) _ (z .size .ensures .0) (on .if1 .left) (sym (stopped .before .contains .ensures) ∙ not-false _ (stopped .if2 .left)) (z .size .ensures .1)
+    write-done (a .t1) (a .place .0) (a .out .now) (a .at) _ (z .size .ensures .0) (on .if1 .left) (sym (stopped .before .contains .ensures) ∙ not-false (stopped .before .contains .result) (stopped .if2 .left)) (z .size .ensures .1)
     (sym (slice-aggregate-write (c .before .before .before .before))) _ _ _ (h .heard .ensures) (c .before .before .write .ensures)
 
 pub write-spec : {M : Type 1} → statement M
