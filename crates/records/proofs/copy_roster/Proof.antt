@@ -1,5 +1,6 @@
 -- `records::copy_roster` meets its contract: one law for each answer. Assumes nothing.
 use mathlib.Core.Path.{sym, _∙_}
+use native.Mathlib.Omega.{arith}
 use borrow.Author.Needs.{needs}
 use borrow.Author.Tests.{not-true, not-false}
 use Rattle.records.proofs.Lists.{there-fits, copy-not-there, copy-too-many, copy-done}
@@ -13,7 +14,9 @@ returns : tie.Need-returns
 returns c = copy-not-there _ _ _ _ (sym (c .before .all-there .ensures) ∙ not-true _ (c .if1 .taken))
 
 returns-2 : tie.Need-returns-2
-returns-2 c = copy-too-many _ _ _ _ (c .if2 .taken)
+returns-2 c =
+    let a = c .before .before .before .before .args in
+    copy-too-many (a .bytes .now) (a .at) (a .count) (a .list .now) (omega (arith, c .if2 .taken))
 
 decode-requires : tie.Need-decode-requires
 decode-requires c κs =

@@ -32,6 +32,27 @@ pub fn compared() {
     is(b"7 9 12 is 7 9", 1, 3, &list[..2]);
     is(b"7 9 12 is 12 9 7", 1, 3, &list[2..]);
     is(b"none at the end is none", 13, 0, &list[..0]);
+    let high = [7u32, 9, 0x8000000c];
+    is(b"7 9 12 is 7 9 and 12 with a higher bit", 1, 3, &high);
+}
+
+// Counts of 1, 128 and 129.
+pub fn counted() {
+    let many = [0u8; 516];
+    let zeros = [0u32; 129];
+    is(b"9 is 0", 5, 1, &zeros[..1]);
+    say::truth(
+        b"128 zeros is 128 zeros",
+        records::roster_is(&many, 0, 128, &zeros[..128]),
+    );
+    say::truth(
+        b"128 zeros is 129 zeros",
+        records::roster_is(&many, 0, 128, &zeros),
+    );
+    say::truth(
+        b"129 zeros is 129 zeros",
+        records::roster_is(&many, 0, 129, &zeros),
+    );
 }
 
 // More than is there.
@@ -52,6 +73,8 @@ pub fn not_there() {
 pub fn copied() {
     let many = [0u8; 512];
     let mut list = [5u32; 128];
+    copy(b"none at the end, copied", 13, 0, &mut list);
+    say::truth(b"nothing changed", all_from(&list, 0, 5));
     copy(b"7 9 12, copied", 1, 3, &mut list);
     say::truth(b"its first is 7", list[0] == 7);
     say::truth(b"its second is 9", list[1] == 9);

@@ -85,6 +85,19 @@ pub fn off_the_roster() {
     read_at(b"and read again", &out, 0);
 }
 
+// A roster of one, with a place off it mourned.
+pub fn of_one() {
+    let one = [0xfffffffeu32];
+    let mut out = [0xaau8; 40];
+    let off = places::only(Place(1));
+    say::writing(
+        b"place 0 of 1",
+        records::write(Kind::Short, Place(0), &one, off, &mut out, 29),
+    );
+    say::truth(b"nothing before it", untouched(&out, 0, 29));
+    read_at(b"and read again", &out, 29);
+}
+
 // The refusals 12 and 3, in this order, and before 13; the buffer stays as it is.
 pub fn refused() {
     let long = [1u32; 129];

@@ -117,7 +117,7 @@ pub fn finding() {
 }
 
 // The serials that differ from x in one bit, the lowest first, and after 32 of them x itself.
-fn one_bit(list: &mut [u32], x: u32) {
+pub fn one_bit(list: &mut [u32], x: u32) {
     let mut bit = 1u32;
     let mut i = 0;
     while i < list.len() {

@@ -1,4 +1,4 @@
-// Whole records in longer bytes: document 01's listing, a record of 128 members, and every cut of a record.
+// Whole records in longer bytes: document 01's listing, every cut of a record, and records of 128 members and of 33.
 ghost use Prim.Native.Nat.{_≤_};
 use crate::lists;
 use crate::say;
@@ -61,6 +61,10 @@ pub fn listing() {
     say::reading(b"the listing's end", records::read(bytes, two.next));
 }
 
+fn lone(name: &[u8], bytes: &[u8]) {
+    say::reading(name, records::read_lone(bytes));
+}
+
 // The 128 serials 65536, 2 x 65536 and so on: each at its place, and a record of them with all mourned, the longest there is.
 pub fn longest() {
     let mut list = [0u32; 128];
@@ -70,18 +74,46 @@ pub fn longest() {
     let mut out = [0u8; 1031];
     let all = places::below(128);
     say::writing(
+        b"the longest record, one byte short",
+        records::write(Kind::Full, Place(127), &list, all, &mut out, 1),
+    );
+    say::writing(
         b"the longest record",
         records::write(Kind::Full, Place(127), &list, all, &mut out, 0),
     );
-    say::reading(b"the longest record, lone", records::read_lone(&out));
-    out[5] = 129;
-    say::reading(
-        b"the same with a roster count of 129",
-        records::read_lone(&out),
+    lone(b"the longest record, lone", &out);
+}
+
+// The same record with other counts, alone and as one of a stream.
+fn longest_with(name: &[u8], roster: u8, mourned: u8) {
+    let mut list = [0u32; 128];
+    lists::fill(&mut list, 65536);
+    let mut out = [0u8; 1031];
+    let all = places::below(128);
+    records::write(Kind::Full, Place(127), &list, all, &mut out, 0);
+    out[5] = roster;
+    out[518] = mourned;
+    lone(name, &out);
+    say::reading(b"and as a stream's", records::read(&out, 0));
+}
+
+pub fn other_counts() {
+    longest_with(b"with a roster count of 129", 129, 128);
+    longest_with(b"with a roster count of 127", 127, 128);
+    longest_with(b"with a mourned count of 129", 128, 129);
+    longest_with(b"with a mourned count of 1", 128, 1);
+    longest_with(b"with a mourned count of 0", 128, 0);
+}
+
+// A record of 33 serials that differ in one bit, all mourned: each is read as its own place.
+pub fn one_bit() {
+    let mut list = [0u32; 33];
+    lists::one_bit(&mut list, 0x01020304);
+    let mut out = [0u8; 271];
+    let all = places::below(33);
+    say::writing(
+        b"a record of 33 serials that differ in one bit",
+        records::write(Kind::Short, Place(32), &list, all, &mut out, 0),
     );
-    out[5] = 127;
-    say::reading(
-        b"the same with a roster count of 127",
-        records::read_lone(&out),
-    );
+    lone(b"and read again", &out);
 }

@@ -15,6 +15,8 @@ fn main() {
     streams::all_cuts();
     streams::listing();
     streams::longest();
+    streams::other_counts();
+    streams::one_bit();
     say::text(b"-- Lists of serials\n");
     lists::opening();
     lists::longer();
@@ -24,11 +26,13 @@ fn main() {
     say::text(b"-- Writing\n");
     writing::back();
     writing::off_the_roster();
+    writing::of_one();
     writing::refused();
     writing::too_short();
     say::text(b"-- A roster beside a list\n");
     beside::compared();
     beside::not_there();
+    beside::counted();
     beside::copied();
     beside::not_copied();
 }
