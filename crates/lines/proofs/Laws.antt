@@ -261,7 +261,7 @@ pub data IsLine : List ℕ → Type 0 where
   whole-line : (settled : Bool) → IsLine (wholeLine settled)
   none-line : IsLine noneLine
 
-length-decimal : (n : ℕ) → length (decimal n) ≤ 20
+pub length-decimal : (n : ℕ) → length (decimal n) ≤ 20
 unfolding decimal
 length-decimal n = digits-most 20 n
 

@@ -1,0 +1,106 @@
+-- What a record that was read says of the bytes that it was read from. Assumes nothing.
+use mathlib.Core.Path.{_≡_, refl, sym, ap, ap₂, subst, _∙_}
+use mathlib.Core.List.{List, [], _++_}
+use Prim.Native.Nat.{ℕ, _+_, _-_, _*_, _≤_, _<_}
+use native.Mathlib.Omega.{arith}
+use lib.ListN.{length, take, drop, getD, length-append, length-drop}
+use lib.Seq.{take-at, getD-drop}
+use borrow.Author.Tests.{le-leb}
+use Rattle.places.specs.PlaceSets.{packed}
+use Rattle.histories.specs.declared.Kind.{Kind}
+use Rattle.histories.specs.declared.Kind.the-variants.{Full, Short}
+use Rattle.rosters.specs.Rosters.{IsRoster}
+use Rattle.rosters.proofs.Laws.{listed-sound}
+use Rattle.records.specs.declared.Record.{Record}
+use Rattle.records.specs.declared.Reading.the-variants.{Read}
+use Rattle.records.specs.Layout.{Parsed, got, refused, Stored, stored, knownKind, kindOf, kindByte}
+use Rattle.records.specs.Records.{readingOf, reading, serials, rosterThere, copiable, copied}
+use Rattle.records.proofs.Layouts.{length-serials, stored-back, length-layout}
+use Rattle.records.proofs.Trips.{serials-read, roster-within, next-is}
+use Rattle.recovery.specs.declared.Opened.{Opened}
+use Rattle.recovery.specs.Contracts.{fresh, unopened, openedAs, opened}
+
+-- what was read, in the bytes from a position on
+pub record ReadAt (b : List ℕ) (at : ℕ) (x : Record) : Type 0 where
+  pub it : Stored
+  pub rest : List ℕ
+  pub parsed : stored (drop at b) ≡ got it rest
+  pub is : x ≡ record { kind = it .kind; own = record { 0 = it .own }; roster = at + 6; count = length (it .roster); mourned = packed (it .mourned); next = length b - length rest }
+
+pub read-at : (b : List ℕ) (at : ℕ) (x : Record) → reading b at ≡ Read x → ReadAt b at x
+unfolding reading readingOf
+read-at b at x e = go (stored (drop at b)) refl e
+  where
+    go : (p : Parsed Stored) → stored (drop at b) ≡ p → readingOf (length b) at p ≡ Read x → ReadAt b at x
+    go (got y rest) f g = record { it = y; rest = rest; parsed = f; is = let h : x ≡ record { kind = y .kind; own = record { 0 = y .own }; roster = at + 6; count = length (y .roster); mourned = packed (y .mourned); next = length b - length rest } = cc in h }
+    go (refused j) f g = let z : _≡_ {A = ℕ} 0 1 = cc in absurd (omega arith)
+
+module _ (b : List ℕ) (at : ℕ) (x : Record) (e : reading b at ≡ Read x) where
+  read : ReadAt b at x
+  read = read-at b at x e
+
+  sound : IsRoster (read .it .roster)
+  sound = stored-back (drop at b) (read .it) (read .rest) (read .parsed) .heading .sound
+
+  count-is : x .count ≡ length (read .it .roster)
+  count-is = ap (λ (y : Record). y .count) (read .is)
+
+  pub count-few : x .count ≤ 128
+  count-few = omega (arith, count-is, sound .few)
+
+  pub starts-inside : at < length b
+  starts-inside = omega (arith, roster-within b at (read .it) (read .rest) (read .parsed))
+
+  -- the record ends behind its start, within the bytes
+  pub ends-inside : x .next ≤ length b
+  ends-inside = omega (arith, ap (λ (y : Record). y .next) (read .is))
+
+  pub ends-behind : at < x .next
+  ends-behind = omega (arith, ap (λ (y : Record). y .next) (read .is) ∙ next-is b at (read .it) (read .rest) (read .parsed), length-layout (read .it))
+
+  roster-is : serials (x .count) (drop (x .roster) b) ≡ read .it .roster
+  roster-is = subst (λ (y : Record). serials (y .count) (drop (y .roster) b) ≡ read .it .roster) (sym (read .is)) (serials-read b at (read .it) (read .rest) (read .parsed))
+
+  -- its kind byte stands at its start
+  kind-is : getD b at 0 ≡ kindByte (x .kind)
+  kind-is =
+      let h : getD (drop at b) 0 0 ≡ kindByte (read .it .kind) = ap (λ (l : List ℕ). getD l 0 0) (stored-back (drop at b) (read .it) (read .rest) (read .parsed) .heading .kind) in
+      let z : at + 0 ≡ at = omega arith in
+      ap (λ (n : ℕ). getD b n 0) (sym z) ∙ sym (getD-drop at b 0 0) ∙ h ∙ ap (λ (y : Record). kindByte (y .kind)) (sym (read .is))
+
+  -- its roster can be copied
+  copied-is : (list : List ℕ) → copied b (x .roster) (x .count) list ≡ serials (x .count) (drop (x .roster) b) ++ drop (x .count) list
+  unfolding copied copiable rosterThere
+  copied-is list =
+      let l : x .roster + x .count * 4 ≤ length b = omega (arith, count-is, ap (λ (y : Record). y .roster) (read .is), roster-within b at (read .it) (read .rest) (read .parsed)) in
+      rw (le-leb (x .roster + x .count * 4) (length b) l, le-leb (x .count) 128 count-few)
+
+  pub copied-long : (list after : List ℕ) → length list ≡ 128 → after ≡ copied b (x .roster) (x .count) list → length after ≡ 128
+  copied-long list after l f =
+      let s : List ℕ = serials (x .count) (drop (x .roster) b) in
+      ap length (f ∙ copied-is list) ∙ length-append s (drop (x .count) list)
+      ∙ omega (arith, length-serials (x .count) (drop (x .roster) b), length-drop (x .count) list, count-few)
+
+  copied-front : (list after : List ℕ) → after ≡ copied b (x .roster) (x .count) list → take (x .count) after ≡ serials (x .count) (drop (x .roster) b)
+  copied-front list after f =
+      ap (take (x .count)) (f ∙ copied-is list)
+      ∙ take-at (serials (x .count) (drop (x .roster) b)) (drop (x .count) list) (x .count) (length-serials (x .count) (drop (x .roster) b))
+
+-- a roster opens a recovery
+opened-roster : (k : Kind) (s : List ℕ) → IsRoster s → opened (kindByte k) s .recovery ≡ fresh k s
+unfolding opened openedAs knownKind kindOf kindByte
+opened-roster Full s i = rw (listed-sound s .1 i)
+opened-roster Short s i = rw (listed-sound s .1 i)
+
+-- the recovery that the record opens
+pub opened-is : (b : List ℕ) (at : ℕ) (x : Record) → reading b at ≡ Read x → (list after : List ℕ) → after ≡ copied b (x .roster) (x .count) list
+    → (o : Opened) → o ≡ opened (getD b at 0) (take (x .count) after) → o .recovery ≡ fresh (x .kind) (serials (x .count) (drop (x .roster) b))
+opened-is b at x e list after f o g =
+    ap (λ (z : Opened). z .recovery) g
+    ∙ ap₂ (λ (k : ℕ) (s : List ℕ). opened k s .recovery) (kind-is b at x e) (copied-front b at x e list after f)
+    ∙ opened-roster (x .kind) (serials (x .count) (drop (x .roster) b)) (subst IsRoster (sym (roster-is b at x e)) (sound b at x e))
+
+-- no kind opens a recovery of no places
+pub unopened-is : (list : List ℕ) (o : Opened) → o ≡ opened 0 list → o .recovery ≡ fresh Full []
+unfolding opened unopened knownKind
+unopened-is list o g = ap (λ (z : Opened). z .recovery) g

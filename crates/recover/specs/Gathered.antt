@@ -1,0 +1,22 @@
+-- Lines gathered in a buffer. Assumes nothing.
+use mathlib.Core.Path.{_≡_}
+use mathlib.Core.Logic.{_⊎_}
+use mathlib.Core.List.{List}
+use Prim.Native.Nat.{ℕ, _+_, _≤_}
+use lib.ListN.{length}
+use Rattle.records.specs.declared.Writing.{Writing}
+use Rattle.records.specs.declared.Writing.the-variants as W
+use Rattle.records.specs.Records.{putAt}
+
+-- where a line that was laid ends
+unfoldable pub endOf : Writing → ℕ
+endOf (W.Next end) = end
+endOf (W.Refused j) = 0
+
+-- a line was laid into a buffer behind its used bytes, or at its front, and ends at a position
+pub record Said (line : List ℕ) (used : ℕ) (before after : List ℕ) (end : ℕ) : Type 0 where
+  pub from : ℕ
+  pub start : (from ≡ used) ⊎ (from ≡ 0)
+  pub ends : end ≡ from + length line
+  pub inside : end ≤ length before
+  pub laid : after ≡ putAt from line before
