@@ -1,7 +1,7 @@
 -- What each call gives, case by case: one law for each case, as the code meets it. Assumes nothing.
 use mathlib.Core.Path.{_≡_, refl, sym, ap, ap₂, _∙_}
-use mathlib.Core.Bool.{Bool, true, false, cond, _&&_}
-use mathlib.Core.Logic.{_⊎_, inl, inr}
+use mathlib.Core.Bool.{Bool, true, false, cond}
+use mathlib.Core.Logic.{_⊎_}
 use mathlib.Core.List.{List}
 use Prim.Native.Nat.{ℕ, _+_, _*_, _<_, _≤_}
 use lib.ListN.{length}
@@ -10,7 +10,7 @@ use borrow.Author.Tests.{lt-ltb, le-ltb, le-leb, lt-leb}
 use Rattle.places.specs.Sets.{same, count}
 use Rattle.places.specs.PlaceSets.{has, found}
 use Rattle.places.specs.declared.Found.the-variants.{At, Nothing}
-use Rattle.places.proofs.Booleans.{clash, is-false, and-intro, and-left, and-right}
+use Rattle.places.proofs.Booleans.{is-false, and-intro, and-left, and-right}
 use Rattle.histories.specs.Histories.{Row}
 use Rattle.histories.specs.Rule.{Answer, is-last, not-last, is-open, answer, recorded, second, accepts, fitsTest, settled, unmourned, unmournedAbsent, unmournedCount}
 use Rattle.rosters.specs.Rosters.{placeOf}
@@ -23,10 +23,12 @@ use Rattle.replies.specs.declared.Reply.the-variants as O
 use Rattle.replies.specs.Replies.{sameKind}
 use Rattle.replies.proofs.Laws.{entering-back, entering-new}
 use Rattle.recovery.specs.declared.Asked.the-variants as A
-use Rattle.recovery.specs.declared.Showing.the-variants as S
+use Rattle.shows.specs.declared.Showing.the-variants as S
+use Rattle.shows.specs.Shows.{unshown, shownIn}
+use Rattle.shows.proofs.Cases as case
 use Rattle.recovery.specs.declared.Checked.the-variants as C
 use Rattle.checks.specs.Checks.{offRoster}
-use Rattle.recovery.specs.Contracts.{sizeOf, rosterOf, acceptedOf, ofGroup, saying, keeping, answered, entered, judged, offeredAs, offered, answerAt, askedAs, asked, Shown, unshown, shownOpen, shownAs, shown, checkedRows, checked, settledOf, unmournedOf, unmournedAbsentOf, unmournedCountOf, foundIn, recordOf, writtenOf}
+use Rattle.recovery.specs.Contracts.{sizeOf, rosterOf, acceptedOf, ofGroup, saying, keeping, answered, entered, judged, offeredAs, offered, answerAt, askedAs, asked, shown, checkedRows, checked, settledOf, unmournedOf, unmournedAbsentOf, unmournedCountOf, foundIn, recordOf, writtenOf}
 use Rattle.recovery.proofs.Facts.{same-kind-elim, same-kind-self, same-list-elim, same-list-self}
 
 -- ---- offering
@@ -105,42 +107,26 @@ module _ (r : Recovery) {n : ℕ} (is : sizeOf r ≡ n) where
   -- ---- showing
 
   module _ (i : ℕ) (a b : List ℕ) where
-    pub shown-off : n ≤ i → shown r i a b ≡ unshown (S.Refused 12) a b
+    shown-is : shown r i a b ≡ shownIn (r .kind) n (acceptedOf r) i a b
     unfolding shown
-    shown-off l = ap (λ (m : ℕ). cond (ltb i m) (shownAs (answerAt r i) r i a b) (unshown (S.Refused 12) a b)) is ∙ ap (λ (t : Bool). cond t (shownAs (answerAt r i) r i a b) (unshown (S.Refused 12) a b)) (le-ltb i n l)
+    shown-is = ap (λ (m : ℕ). shownIn (r .kind) m (acceptedOf r) i a b) is
 
-    shown-at : (w : Answer) → i < n → answer (r .kind) n (acceptedOf r) i ≡ w → shown r i a b ≡ shownAs w r i a b
-    unfolding shown
-    shown-at w l e =
-        ap₂ (λ (m : ℕ) (w : Answer). cond (ltb i m) (shownAs w r i a b) (unshown (S.Refused 12) a b)) is (answer-is i ∙ e) ∙ ap (λ (t : Bool). cond t (shownAs w r i a b) (unshown (S.Refused 12) a b)) (lt-ltb i n l)
+    pub shown-off : n ≤ i → shown r i a b ≡ unshown (S.Refused 12) a b
+    shown-off l = shown-is ∙ case.shown-off (r .kind) n (acceptedOf r) i a b l
 
     pub shown-last : i < n → answer (r .kind) n (acceptedOf r) i ≡ is-last → shown r i a b ≡ unshown S.Decided a b
-    unfolding shownAs
-    shown-last l e = shown-at is-last l e
+    shown-last l e = shown-is ∙ case.shown-last (r .kind) n (acceptedOf r) i a b l e
 
     pub shown-not : i < n → answer (r .kind) n (acceptedOf r) i ≡ not-last → shown r i a b ≡ unshown S.Decided a b
-    unfolding shownAs
-    shown-not l e = shown-at not-last l e
+    shown-not l e = shown-is ∙ case.shown-not (r .kind) n (acceptedOf r) i a b l e
 
     module _ (l : i < n) (e : answer (r .kind) n (acceptedOf r) i ≡ is-open) where
-      shown-open : (t : Bool) → leb (16 * n) (length a) && leb (16 * n) (length b) ≡ t
-          → shown r i a b ≡ cond t (record { answer = S.Shown; first = laid n (recorded (acceptedOf r)) a; second = laid n (second (r .kind) n (acceptedOf r) i) b }) (unshown (S.Refused 13) a b)
-      unfolding shownAs shownOpen
-      shown-open t h =
-          shown-at is-open l e
-          ∙ ap (λ (m : ℕ). cond (leb (16 * m) (length a) && leb (16 * m) (length b)) (record { answer = S.Shown; first = laid m (recorded (acceptedOf r)) a; second = laid m (second (r .kind) m (acceptedOf r) i) b }) (unshown (S.Refused 13) a b)) is
-          ∙ ap (λ (t : Bool). cond t (record { answer = S.Shown; first = laid n (recorded (acceptedOf r)) a; second = laid n (second (r .kind) n (acceptedOf r) i) b }) (unshown (S.Refused 13) a b)) h
-
       pub shown-short : (length a < 16 * n) ⊎ (length b < 16 * n) → shown r i a b ≡ unshown (S.Refused 13) a b
-      shown-short s = shown-open false (short s)
-        where
-          short : (length a < 16 * n) ⊎ (length b < 16 * n) → leb (16 * n) (length a) && leb (16 * n) (length b) ≡ false
-          short (inl s) = ap (λ (t : Bool). t && leb (16 * n) (length b)) (lt-leb (16 * n) (length a) s)
-          short (inr s) = is-false _ (λ t. clash (and-right (leb (16 * n) (length a)) (leb (16 * n) (length b)) t) (lt-leb (16 * n) (length b) s))
+      shown-short s = shown-is ∙ case.shown-short (r .kind) n (acceptedOf r) i a b l e s
 
       pub shown-both : 16 * n ≤ length a → 16 * n ≤ length b
           → shown r i a b ≡ record { answer = S.Shown; first = laid n (recorded (acceptedOf r)) a; second = laid n (second (r .kind) n (acceptedOf r) i) b }
-      shown-both u v = shown-open true (and-intro (le-leb (16 * n) (length a) u) (le-leb (16 * n) (length b) v))
+      shown-both u v = shown-is ∙ case.shown-both (r .kind) n (acceptedOf r) i a b l e u v
 
   -- ---- checking a lent history
 

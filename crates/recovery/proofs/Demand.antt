@@ -32,7 +32,8 @@ use Rattle.recovery.specs.declared.Recovery.{Recovery}
 use Rattle.recovery.specs.declared.Opening.the-variants as G
 use Rattle.recovery.specs.declared.Offered.{Offered}
 use Rattle.checks.specs.Checks.{offRoster}
-use Rattle.recovery.specs.Contracts.{sizeOf, rosterOf, acceptedOf, fresh, opened, ofGroup, saying, keeping, entered, offered, askedAs, asked, unshown, shown, checked, settledOf, unmournedOf, unmournedAbsentOf, unmournedCountOf, foundIn, recordOf, writtenOf}
+use Rattle.shows.specs.Shows.{unshown}
+use Rattle.recovery.specs.Contracts.{sizeOf, rosterOf, acceptedOf, fresh, opened, ofGroup, saying, keeping, entered, offered, askedAs, asked, shown, checked, settledOf, unmournedOf, unmournedAbsentOf, unmournedCountOf, foundIn, recordOf, writtenOf}
 use Rattle.recovery.specs.Demand as D
 use Rattle.recovery.specs.Demand.{Free, Call, offer, ask, show, check, whole, unmourned, unmourned-absent, unmourned-count, find, write, says, lent-one, places, number, OfGroup, Holds, recordIn, Dictates, faulty, foreign, repeats, differs, takes, none-fits, asked-off, asked-last, asked-not, asked-open, showed-off, showed-decided, showed-short, showed, checked-short, checked-off, checked-fits, checked-not, whole-settled, whole-open, gave-unmourned, gave-absent, gave-count, found-at, found-none, wrote-off, wrote-absent, wrote-short, wrote, Whole, end, then}
 use Rattle.recovery.specs.Run.{offerSays, askedSays, showingSays, checkedSays, writingSays, foundGives, shownGives, writtenGives, outcome, next, run, left}

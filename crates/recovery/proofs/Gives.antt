@@ -1,41 +1,36 @@
 -- What each call gives, one law for each way in which the code returns. Assumes nothing.
 use mathlib.Core.Path.{_≡_, refl, sym, ap, _∙_, fun-ext}
-use mathlib.Core.Bool.{Bool, true, false, not, cond, _&&_, _||_}
-use mathlib.Core.List.{List, [], _∷_, _++_}
-use Prim.Native.Nat.{ℕ, _+_, _-_, _*_, _≤_, _<_}
-use native.Mathlib.Omega.{arith}
+use mathlib.Core.Bool.{Bool, true, false, not, _&&_}
+use mathlib.Core.List.{List, _++_}
+use Prim.Native.Nat.{ℕ, _-_, _<_}
 use lib.ListN.{length, replicate}
-use lib.Dec.{eqb, leb, ltb}
-use borrow.Author.Tests.{le-leb, lt-leb, lt-ltb, le-ltb, ltb-true, eq-eqb, ne-eqb}
-use Rattle.places.specs.Sets.{Places, nothing, below, intersection, difference, with, count}
-use Rattle.places.specs.PlaceSets.{has, kept, Words, packed, found}
+use lib.Dec.{ltb}
+use borrow.Author.Tests.{ltb-true, ne-eqb}
+use Rattle.places.specs.Sets.{Places, nothing, difference, with, count}
+use Rattle.places.specs.PlaceSets.{has, kept, Words, packed}
 use Rattle.places.specs.declared.PlaceSet.{PlaceSet}
-use Rattle.places.proofs.Booleans.{clash, and-left}
+use Rattle.places.proofs.Booleans.{and-left}
 use Rattle.places.proofs.Counting.{count-within}
-use Rattle.places.proofs.Laws.{packed-is, kept-has, has-ext, packed-words, has-packed}
+use Rattle.places.proofs.Laws.{packed-is, kept-has}
 use Rattle.histories.specs.declared.Kind.{Kind}
 use Rattle.histories.specs.declared.Kind.the-variants.{Full, Short}
-use Rattle.histories.specs.Histories.{History}
 use Rattle.histories.specs.Rule as R
-use Rattle.rosters.specs.Rosters.{placeOf, listed}
+use Rattle.rosters.specs.Rosters.{listed}
 use Rattle.rosters.specs.declared.Listed.{Listed}
 use Rattle.rosters.specs.declared.Listed.the-variants as L
-use Rattle.rows.specs.Rows.{noRows, withRow, historyIn, laid}
+use Rattle.rows.specs.Rows.{noRows, withRow}
 use Rattle.records.specs.Layout.{knownKind, kindOf}
 use Rattle.answers.specs.Views.{size, acceptedIn, answerOf}
 use Rattle.answers.specs.declared.Answer as declared
 use Rattle.answers.specs.declared.Answer.the-variants as B
 use Rattle.answers.proofs.Views.{size-at-most}
-use Rattle.checks.specs.Checks.{offRoster}
 use Rattle.recovery.proofs.Calls.{asked-is}
 use Rattle.recovery.specs.declared.Recovery.{Recovery}
 use Rattle.recovery.specs.declared.Opening.the-variants as G
 use Rattle.recovery.specs.declared.Opened.{Opened}
 use Rattle.recovery.specs.declared.Asked.{Asked}
 use Rattle.recovery.specs.declared.Asked.the-variants as A
-use Rattle.recovery.specs.declared.Showing.the-variants as S
-use Rattle.recovery.specs.declared.Checked.the-variants as C
-use Rattle.recovery.specs.Contracts.{sizeOf, rosterOf, acceptedOf, fresh, unopened, openedAs, opened, keeping, answerAt, askedAs, asked, Shown, unshown, shownOpen, shownAs, shown, checkedRows, checked, unmournedOf, unmournedAbsentOf, unmournedCountOf}
+use Rattle.recovery.specs.Contracts.{sizeOf, acceptedOf, fresh, unopened, openedAs, opened, keeping, askedAs, asked, unmournedOf, unmournedAbsentOf, unmournedCountOf}
 
 -- ---- opening
 

@@ -12,4 +12,4 @@ pub mod Trips
 pub mod Refuses
 pub mod Gives
 pub mod Offers
-pub mod Shows
+pub mod Writes

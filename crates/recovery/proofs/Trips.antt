@@ -19,8 +19,8 @@ use Rattle.records.proofs.Trips.{read-layout, lone-layout, read-back}
 use Rattle.recovery.specs.declared.Recovery.{Recovery}
 use Rattle.replies.specs.declared.Reply.{Reply}
 use Rattle.replies.specs.declared.Reply.the-variants as O
-use Rattle.recovery.specs.declared.Showing.{Showing}
-use Rattle.recovery.specs.declared.Showing.the-variants as S
+use Rattle.shows.specs.declared.Showing.{Showing}
+use Rattle.shows.specs.declared.Showing.the-variants as S
 use Rattle.recovery.specs.declared.Checked.{Checked}
 use Rattle.recovery.specs.declared.Checked.the-variants as C
 use Rattle.recovery.specs.Contracts.{acceptedOf, opened, offered, shown, checked, recordOf, writtenOf}

@@ -1,29 +1,28 @@
 -- What each call gives, and each lent byte afterwards, for every recovery and every input: the definitions that the contracts
 -- cite. Assumes nothing.
-use mathlib.Core.Bool.{Bool, true, false, not, cond, _&&_}
-use mathlib.Core.List.{List, [], _∷_, _++_}
-use Prim.Native.Nat.{ℕ, _+_, _-_, _*_}
+use mathlib.Core.Bool.{Bool, cond, _&&_}
+use mathlib.Core.List.{List, [], _++_}
+use Prim.Native.Nat.{ℕ, _-_, _*_}
 use lib.ListN.{length, take, replicate}
 use lib.Dec.{leb, ltb}
 use Rattle.places.specs.Sets.{nothing, with}
 use Rattle.places.specs.PlaceSets.{has, packed, found}
-use Rattle.places.specs.declared.PlaceSet.{PlaceSet}
 use Rattle.places.specs.declared.Found.{Found}
 use Rattle.histories.specs.declared.Kind.{Kind}
 use Rattle.histories.specs.declared.Kind.the-variants.{Full}
 use Rattle.histories.specs.Histories.{Row, History, Accepted}
-use Rattle.histories.specs.Rule.{Answer, is-last, not-last, is-open, answer, recorded, second, fitsTest, settled, unmourned, unmournedAbsent, unmournedCount}
+use Rattle.histories.specs.Rule.{Answer, is-last, not-last, is-open, answer, fitsTest, settled, unmourned, unmournedAbsent, unmournedCount}
 use Rattle.rosters.specs.Rosters.{placeOf, listed}
 use Rattle.rosters.specs.declared.Listed.{Listed}
 use Rattle.rosters.specs.declared.Listed.the-variants as L
-use Rattle.rows.specs.Rows.{noRows, withRow, historyIn, laid}
-use Rattle.records.specs.Layout.{Parsed, got, refused, knownKind, kindOf, kindByte, Stored, lone, layout}
+use Rattle.rows.specs.Rows.{noRows, withRow, historyIn}
+use Rattle.records.specs.Layout.{Parsed, got, refused, knownKind, kindOf, Stored, lone, layout}
 use Rattle.records.specs.Records.{sameList, Written, unwritten, writtenAt}
 use Rattle.answers.specs.Views.{size, acceptedIn}
 use Rattle.checks.specs.Checks.{offRoster}
+use Rattle.shows.specs.Shows.{Shown, shownIn}
 use Rattle.replies.specs.Replies.{sameKind, entering}
 use Rattle.recovery.specs.declared.Recovery.{Recovery}
-use Rattle.recovery.specs.declared.Opening.{Opening}
 use Rattle.recovery.specs.declared.Opening.the-variants as G
 use Rattle.recovery.specs.declared.Opened.{Opened}
 use Rattle.replies.specs.declared.Reply.{Reply}
@@ -31,8 +30,6 @@ use Rattle.replies.specs.declared.Reply.the-variants as O
 use Rattle.recovery.specs.declared.Offered.{Offered}
 use Rattle.recovery.specs.declared.Asked.{Asked}
 use Rattle.recovery.specs.declared.Asked.the-variants as A
-use Rattle.recovery.specs.declared.Showing.{Showing}
-use Rattle.recovery.specs.declared.Showing.the-variants as S
 use Rattle.recovery.specs.declared.Checked.{Checked}
 use Rattle.recovery.specs.declared.Checked.the-variants as C
 
@@ -122,35 +119,8 @@ asked r i = cond (ltb i (sizeOf r)) (askedAs (answerAt r i)) (A.Refused 12)
 
 -- ---- showing: 12, decided, 13, or both histories laid down
 
--- the answer, and both buffers afterwards
-pub record Shown : Type 0 where
-  pub answer : Showing
-  pub first : List ℕ
-  pub second : List ℕ
-
--- both buffers stay as they are
-unfoldable pub unshown : Showing → List ℕ → List ℕ → Shown
-unshown s a b = record { answer = s; first = a; second = b }
-
--- an open place
-unfoldable pub shownOpen : Recovery → ℕ → List ℕ → List ℕ → Shown
-shownOpen r i a b =
-    cond (leb (16 * sizeOf r) (length a) && leb (16 * sizeOf r) (length b))
-    (record {
-      answer = S.Shown;
-      first = laid (sizeOf r) (recorded (acceptedOf r)) a;
-      second = laid (sizeOf r) (second (r .kind) (sizeOf r) (acceptedOf r) i) b;
-    })
-    (unshown (S.Refused 13) a b)
-
--- a place on the roster
-unfoldable pub shownAs : Answer → Recovery → ℕ → List ℕ → List ℕ → Shown
-shownAs is-last r i a b = unshown S.Decided a b
-shownAs not-last r i a b = unshown S.Decided a b
-shownAs is-open r i a b = shownOpen r i a b
-
 unfoldable pub shown : Recovery → ℕ → List ℕ → List ℕ → Shown
-shown r i a b = cond (ltb i (sizeOf r)) (shownAs (answerAt r i) r i a b) (unshown (S.Refused 12) a b)
+shown r i a b = shownIn (r .kind) (sizeOf r) (acceptedOf r) i a b
 
 -- ---- checking a lent history: 13, 15, or whether it fits
 

@@ -14,11 +14,12 @@ use Rattle.replies.specs.declared.Reply.{Reply}
 use Rattle.replies.specs.declared.Reply.the-variants as O
 use Rattle.recovery.specs.declared.Asked.{Asked}
 use Rattle.recovery.specs.declared.Asked.the-variants as A
-use Rattle.recovery.specs.declared.Showing.{Showing}
-use Rattle.recovery.specs.declared.Showing.the-variants as S
+use Rattle.shows.specs.declared.Showing.{Showing}
+use Rattle.shows.specs.declared.Showing.the-variants as S
+use Rattle.shows.specs.Shows.{Shown}
 use Rattle.recovery.specs.declared.Checked.{Checked}
 use Rattle.recovery.specs.declared.Checked.the-variants as C
-use Rattle.recovery.specs.Contracts.{offered, asked, Shown, shown, checked, settledOf, unmournedOf, unmournedAbsentOf, unmournedCountOf, foundIn, writtenOf}
+use Rattle.recovery.specs.Contracts.{offered, asked, shown, checked, settledOf, unmournedOf, unmournedAbsentOf, unmournedCountOf, foundIn, writtenOf}
 use Rattle.recovery.specs.Demand as D
 use Rattle.recovery.specs.Demand.{Said, Call, offer, ask, show, check, whole, unmourned, unmourned-absent, unmourned-count, find, write, Outcome, says, lent, lent-one, places, number}
 

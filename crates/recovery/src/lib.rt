@@ -2,19 +2,12 @@
 // nothing that depends on the order in which records came. The definitions that the contracts cite stand in specs/Contracts.antt;
 // demand 3, over whole lists of calls, in specs/Demand.antt and proofs/Demand.antt.
 ghost use mathlib.Core.Path.{_≡_};
-ghost use mathlib.Core.Bool.{true, cond};
-ghost use Prim.Native.Nat.{ℕ, _-_, _*_, _≤_, _<_};
+ghost use Prim.Native.Nat.{_≤_};
 ghost use lib.ListN.{length};
-ghost use Rattle.places.specs.Sets as sets;
-ghost use Rattle.places.specs.PlaceSets.{has, kept};
+ghost use Rattle.places.specs.PlaceSets.{has};
 ghost use Rattle.rosters.specs.Rosters.{listed};
-ghost use Rattle.rows.specs.Rows.{laid};
-ghost use Rattle.histories.specs.Rule as rule;
-ghost use Rattle.answers.specs.Views as views;
 ghost use Rattle.replies.specs.Replies.{judgement};
 ghost use Rattle.recovery.specs.Contracts as contracts;
-ghost use Rattle.recovery.specs.declared.Asked.the-variants as said;
-ghost use Rattle.recovery.specs.Shows.{replaced};
 ghost use Rattle.recovery.specs.Contracts.{opened, openedAs, saying, keeping, answered, offered, asked, shown, checked, settledOf, unmournedOf, unmournedAbsentOf, unmournedCountOf, foundIn, writtenOf};
 use answers::Answer;
 use histories::Kind;
@@ -28,6 +21,7 @@ use replies::Reply;
 use rosters::Listed;
 use rosters::Serial;
 use rows::Rows;
+use shows::Showing;
 
 // The first `count` of `serials` are the roster. A place in `returned` is back, and its row is its record's mourned set.
 pub struct Recovery {
@@ -59,12 +53,6 @@ pub enum Asked {
     Last,
     NotLast,
     Open,
-    Refused(u8),
-}
-
-pub enum Showing {
-    Shown,
-    Decided,
     Refused(u8),
 }
 
@@ -302,105 +290,13 @@ pub fn write(r: Recovery, place: Place, out: &mut [u8], at: usize) -> Writing
     records::write(kind, place, &serials[..n], row, out, at)
 }
 
-// A row of a shown history: `row` at the place `other`, the recorded row at every other place.
-fn shown_row(
-    rows: &Rows,
-    returned: PlaceSet,
-    count: usize,
-    p: usize,
-    other: Place,
-    row: PlaceSet,
-) -> PlaceSet
-    ensures { λ s. ⌜ has s ≡ replaced (views.acceptedIn count (has returned) (now (rows .entry))) (other .0) (has row) p ⌝ }
-{
-    if p == other.0 {
-        return row;
-    }
-    answers::recorded(rows, returned, count, Place(p))
-}
-
-// Lays the rows of the first n places into the front of a buffer: `row` for `other`, the recorded ones for the others.
-fn lay_rows(
-    rows: &Rows,
-    returned: PlaceSet,
-    count: usize,
-    n: usize,
-    other: Place,
-    row: PlaceSet,
-    out: &mut [u8],
-)
-    requires { ⌜ (n ≤ 128) × (16 * n ≤ length (now out)) ⌝ }
-    ensures { λ s. ⌜ now (out .exit) ≡ laid n (replaced (views.acceptedIn count (has returned) (now (rows .entry))) (other .0) (has row)) (now (out .entry)) ⌝ }
-{
-    let mut p = 0;
-    while p < n {
-        let next = shown_row(rows, returned, count, p, other, row);
-        rows::put(out, 16 * p, next);
-        p += 1;
-    }
-}
-
-// The lowest blocker of a place; the roster's length where there is none.
-fn lowest_blocker(kind: Kind, rows: &Rows, returned: PlaceSet, count: usize, place: Place) -> Place
-    ensures { λ s. ⌜ s .0 ≡ sets.lowest (views.size count) (rule.blockers kind (views.size count) (views.acceptedIn count (has returned) (now (rows .entry))) (place .0)) ⌝ }
-{
-    let blockers = answers::blockers(kind, rows, returned, count, place);
-    let found = places::lowest(blockers);
-    match found {
-        Found::At(b) => b,
-        Found::Nothing => Place(answers::size(count)),
-    }
-}
-
-// What one that heard a place has in its row: the place, and in the full kind the place's recorded row.
-fn heard_row(kind: Kind, rows: &Rows, returned: PlaceSet, count: usize, place: Place) -> PlaceSet
-    ensures { λ s. ⌜ has s ≡ kept (sets.with (place .0) (rule.inherited kind (views.acceptedIn count (has returned) (now (rows .entry))) (place .0))) ⌝ }
-{
-    match kind {
-        Kind::Full => {
-            let own = answers::recorded(rows, returned, count, place);
-            places::with(own, place)
-        }
-        Kind::Short => places::only(place),
-    }
-}
-
-// Shows a place that is open: 13, or both histories laid down. In the first the place's own row is the recorded one, too.
-fn show_open(r: Recovery, place: Place, first: &mut [u8], second: &mut [u8]) -> Showing
-    requires { ⌜ asked r (place .0) ≡ said.Open ⌝ }
-    ensures { λ s. ⌜ s ≡ shown r (place .0) (now (first .entry)) (now (second .entry)) .answer ⌝ }
-    ensures { λ s. ⌜ now (first .exit) ≡ shown r (place .0) (now (first .entry)) (now (second .entry)) .first ⌝ }
-    ensures { λ s. ⌜ now (second .exit) ≡ shown r (place .0) (now (first .entry)) (now (second .entry)) .second ⌝ }
-{
-    let count = r.count;
-    let kind = r.kind;
-    let returned = r.returned;
-    let n = answers::size(count);
-    if first.len() < 16 * n {
-        return Showing::Refused(13);
-    }
-    if second.len() < 16 * n {
-        return Showing::Refused(13);
-    }
-    let own = answers::recorded(&r.rows, returned, count, place);
-    let blocker = lowest_blocker(kind, &r.rows, returned, count, place);
-    let heard = heard_row(kind, &r.rows, returned, count, place);
-    lay_rows(&r.rows, returned, count, n, place, own, first);
-    lay_rows(&r.rows, returned, count, n, blocker, heard, second);
-    Showing::Shown
-}
-
 // Shows two histories that fit and differ on a place: 12, decided, 13, or both laid down.
 pub fn show(r: Recovery, place: Place, first: &mut [u8], second: &mut [u8]) -> Showing
     ensures { λ s. ⌜ s ≡ shown r (place .0) (now (first .entry)) (now (second .entry)) .answer ⌝ }
     ensures { λ s. ⌜ now (first .exit) ≡ shown r (place .0) (now (first .entry)) (now (second .entry)) .first ⌝ }
     ensures { λ s. ⌜ now (second .exit) ≡ shown r (place .0) (now (first .entry)) (now (second .entry)) .second ⌝ }
 {
-    let answer = ask(r, place);
-    match answer {
-        Asked::Last => Showing::Decided,
-        Asked::NotLast => Showing::Decided,
-        Asked::Open => show_open(r, place, first, second),
-        Asked::Refused(fault) => Showing::Refused(fault),
-    }
+    let kind = r.kind;
+    let returned = r.returned;
+    shows::show(kind, &r.rows, returned, r.count, place, first, second)
 }

@@ -6,7 +6,7 @@ use borrow.Author.Tests.{not-true, not-false}
 use lib.ListN.{length}
 use lib.Seq.{length-take-le}
 use Rattle.recovery.specs.Contracts.{sizeOf, acceptedOf}
-use Rattle.recovery.proofs.Shows.{write-12, write-14, write-back}
+use Rattle.recovery.proofs.Writes.{write-12, write-14, write-back}
 use Rattle.recovery.proofs.write.Statement.{statement}
 use Rattle.recovery.proofs.write.Tie as tie
 

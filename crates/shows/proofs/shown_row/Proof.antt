@@ -1,9 +1,9 @@
--- `recovery::shown_row` meets its contract. Assumes nothing.
+-- `shows::shown_row` meets its contract. Assumes nothing.
 use mathlib.Core.Path.{_∙_}
 use borrow.Author.Needs.{needs}
-use Rattle.recovery.proofs.Shows.{replaced-there, replaced-other}
-use Rattle.recovery.proofs.shown_row.Statement.{statement}
-use Rattle.recovery.proofs.shown_row.Tie as tie
+use Rattle.shows.proofs.Laws.{replaced-there, replaced-other}
+use Rattle.shows.proofs.shown_row.Statement.{statement}
+use Rattle.shows.proofs.shown_row.Tie as tie
 
 returns : tie.Need-returns
 returns c = replaced-there _ _ _ _ (c .if1 .taken)

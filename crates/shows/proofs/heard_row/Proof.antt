@@ -1,8 +1,8 @@
--- `recovery::heard_row` meets its contract. Assumes nothing.
+-- `shows::heard_row` meets its contract. Assumes nothing.
 use borrow.Author.Needs.{needs}
-use Rattle.recovery.proofs.Shows.{heard-full, heard-short}
-use Rattle.recovery.proofs.heard_row.Statement.{statement}
-use Rattle.recovery.proofs.heard_row.Tie as tie
+use Rattle.shows.proofs.Laws.{heard-full, heard-short}
+use Rattle.shows.proofs.heard_row.Statement.{statement}
+use Rattle.shows.proofs.heard_row.Tie as tie
 
 enum-told : tie.Need-enum-told
 enum-told c = search needs

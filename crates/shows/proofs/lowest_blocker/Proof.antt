@@ -1,9 +1,9 @@
--- `recovery::lowest_blocker` meets its contract. Assumes nothing.
+-- `shows::lowest_blocker` meets its contract. Assumes nothing.
 use borrow.Author.Needs.{needs}
 use Rattle.answers.proofs.Views.{size-at-most}
-use Rattle.recovery.proofs.Shows.{blocker-at, blocker-none}
-use Rattle.recovery.proofs.lowest_blocker.Statement.{statement}
-use Rattle.recovery.proofs.lowest_blocker.Tie as tie
+use Rattle.shows.proofs.Laws.{blocker-at, blocker-none}
+use Rattle.shows.proofs.lowest_blocker.Statement.{statement}
+use Rattle.shows.proofs.lowest_blocker.Tie as tie
 
 blockers-requires : tie.Need-blockers-requires
 blockers-requires c κs = search needs

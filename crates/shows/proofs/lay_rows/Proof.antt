@@ -1,4 +1,4 @@
--- `recovery::lay_rows` meets its contract: the rows of the places passed stand at the front. Assumes nothing.
+-- `shows::lay_rows` meets its contract: the rows of the places passed stand at the front. Assumes nothing.
 use mathlib.Core.Path.{_≡_, refl, sym, ap, _∙_}
 use Prim.Native.Nat.{ℕ, _-_, _≤_}
 use native.Mathlib.Omega.{arith}
@@ -8,10 +8,10 @@ use Rattle.places.specs.PlaceSets.{has}
 use Rattle.rows.specs.Rows.{laid}
 use Rattle.rows.proofs.Laws.{laid-none}
 use Rattle.answers.specs.Views.{acceptedIn}
-use Rattle.recovery.specs.Shows.{replaced}
-use Rattle.recovery.proofs.Shows.{lay-next}
-use Rattle.recovery.proofs.lay_rows.Statement.{statement}
-use Rattle.recovery.proofs.lay_rows.Tie as tie
+use Rattle.shows.specs.Shows.{replaced}
+use Rattle.shows.proofs.Laws.{lay-next}
+use Rattle.shows.proofs.lay_rows.Statement.{statement}
+use Rattle.shows.proofs.lay_rows.Tie as tie
 
 abbrev Inv-loop : tie.InvT-loop
 Inv-loop rows returned count n other row out₀ p₀ out p = (p ≤ n) × (length out ≡ length out₀) × (out ≡ laid p (replaced (acceptedIn count (has returned) rows) (other .0) (has row)) out₀)

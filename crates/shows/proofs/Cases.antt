@@ -1,0 +1,52 @@
+-- What showing gives, case by case. Assumes nothing.
+use mathlib.Core.Path.{_≡_, ap, ap₂, _∙_}
+use mathlib.Core.Bool.{Bool, true, false, cond, _&&_}
+use mathlib.Core.Logic.{_⊎_, inl, inr}
+use mathlib.Core.List.{List}
+use Prim.Native.Nat.{ℕ, _*_, _<_, _≤_}
+use lib.ListN.{length}
+use lib.Dec.{leb}
+use borrow.Author.Tests.{lt-ltb, le-ltb, le-leb, lt-leb}
+use Rattle.places.proofs.Booleans.{clash, is-false, and-intro, and-right}
+use Rattle.histories.specs.declared.Kind.{Kind}
+use Rattle.histories.specs.Histories.{Accepted}
+use Rattle.histories.specs.Rule.{Answer, is-last, not-last, is-open, answer, recorded, second}
+use Rattle.rows.specs.Rows.{laid}
+use Rattle.shows.specs.declared.Showing.the-variants as S
+use Rattle.shows.specs.Shows.{unshown, shownOpen, shownAs, shownIn}
+
+module _ (k : Kind) (n : ℕ) (A : Accepted) (i : ℕ) (a b : List ℕ) where
+  pub shown-off : n ≤ i → shownIn k n A i a b ≡ unshown (S.Refused 12) a b
+  unfolding shownIn
+  shown-off l = ap (λ (t : Bool). cond t (shownAs (answer k n A i) k n A i a b) (unshown (S.Refused 12) a b)) (le-ltb i n l)
+
+  shown-at : (w : Answer) → i < n → answer k n A i ≡ w → shownIn k n A i a b ≡ shownAs w k n A i a b
+  unfolding shownIn
+  shown-at w l e = ap₂ (λ (t : Bool) (w : Answer). cond t (shownAs w k n A i a b) (unshown (S.Refused 12) a b)) (lt-ltb i n l) e
+
+  pub shown-last : i < n → answer k n A i ≡ is-last → shownIn k n A i a b ≡ unshown S.Decided a b
+  unfolding shownAs
+  shown-last l e = shown-at is-last l e
+
+  pub shown-not : i < n → answer k n A i ≡ not-last → shownIn k n A i a b ≡ unshown S.Decided a b
+  unfolding shownAs
+  shown-not l e = shown-at not-last l e
+
+  module _ (l : i < n) (e : answer k n A i ≡ is-open) where
+    shown-open : (t : Bool) → leb (16 * n) (length a) && leb (16 * n) (length b) ≡ t
+        → shownIn k n A i a b ≡ cond t (record { answer = S.Shown; first = laid n (recorded A) a; second = laid n (second k n A i) b }) (unshown (S.Refused 13) a b)
+    unfolding shownAs shownOpen
+    shown-open t h =
+        shown-at is-open l e
+        ∙ ap (λ (t : Bool). cond t (record { answer = S.Shown; first = laid n (recorded A) a; second = laid n (second k n A i) b }) (unshown (S.Refused 13) a b)) h
+
+    pub shown-short : (length a < 16 * n) ⊎ (length b < 16 * n) → shownIn k n A i a b ≡ unshown (S.Refused 13) a b
+    shown-short s = shown-open false (short s)
+      where
+        short : (length a < 16 * n) ⊎ (length b < 16 * n) → leb (16 * n) (length a) && leb (16 * n) (length b) ≡ false
+        short (inl s) = ap (λ (t : Bool). t && leb (16 * n) (length b)) (lt-leb (16 * n) (length a) s)
+        short (inr s) = is-false _ (λ t. clash (and-right (leb (16 * n) (length a)) (leb (16 * n) (length b)) t) (lt-leb (16 * n) (length b) s))
+
+    pub shown-both : 16 * n ≤ length a → 16 * n ≤ length b
+        → shownIn k n A i a b ≡ record { answer = S.Shown; first = laid n (recorded A) a; second = laid n (second k n A i) b }
+    shown-both u v = shown-open true (and-intro (le-leb (16 * n) (length a) u) (le-leb (16 * n) (length b) v))
