@@ -1,0 +1,27 @@
+// The public functions of a recovery beside a plain second reckoning, which lists all histories of a small roster and counts, place by
+// place, in how many of the fitting ones the place is last. One line for each family of cases; before it one for the first case that
+// differs, with all that it takes to repeat it: the kind, the roster's length, the records in order as PLACE:SET, the call, and both
+// outcomes. A set is the sum of its places' bits.
+mod buffers;
+mod caller;
+mod cases;
+mod counts;
+mod families;
+mod group;
+mod laid;
+mod matrices;
+mod outcomes;
+mod parts;
+mod piles;
+mod runs;
+mod say;
+mod stored;
+mod tallies;
+
+fn main() {
+    families::of_small_rosters();
+    let t = group::cases(tallies::none());
+    tallies::report(b"what a group and a caller meet", caller::cases(t));
+    tallies::report(b"counts and serials", counts::cases(tallies::none()));
+    families::of_four_places();
+}

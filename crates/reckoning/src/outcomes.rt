@@ -1,0 +1,124 @@
+// Every outcome as one number: a refusal is its own number, the others stand above all sets, counts and positions that occur.
+use crate::say;
+use places::Found;
+use places::PlaceSet;
+use records::Writing;
+use recovery::Asked;
+use recovery::Checked;
+use recovery::Opening;
+use replies::Reply;
+use shows::Showing;
+
+pub const OPENED: u64 = 1000001;
+
+pub const TAKEN: u64 = 1000002;
+
+pub const REPEATED: u64 = 1000003;
+
+pub const LAST: u64 = 1000004;
+
+pub const NOT_LAST: u64 = 1000005;
+
+pub const OPEN: u64 = 1000006;
+
+pub const SHOWN: u64 = 1000007;
+
+pub const DECIDED: u64 = 1000008;
+
+pub const FITS: u64 = 1000009;
+
+pub const FITS_NOT: u64 = 1000010;
+
+pub const NOTHING: u64 = 1000011;
+
+pub const HIGH: u64 = 1000012;
+
+// An outcome in words, or as the number that it is.
+pub fn write(x: u64) {
+    match x {
+        1000001 => say::text(b"opened"),
+        1000002 => say::text(b"taken"),
+        1000003 => say::text(b"repeated"),
+        1000004 => say::text(b"last"),
+        1000005 => say::text(b"not"),
+        1000006 => say::text(b"open"),
+        1000007 => say::text(b"shown"),
+        1000008 => say::text(b"decided"),
+        1000009 => say::text(b"fits"),
+        1000010 => say::text(b"fits not"),
+        1000011 => say::text(b"nothing"),
+        1000012 => say::text(b"places from 64 on"),
+        _ => say::number(x),
+    }
+}
+
+pub fn opening(got: Opening) -> u64 {
+    match got {
+        Opening::Opened => OPENED,
+        Opening::Refused(fault) => fault as u64,
+    }
+}
+
+pub fn reply(got: Reply) -> u64 {
+    match got {
+        Reply::Taken => TAKEN,
+        Reply::Repeated => REPEATED,
+        Reply::Refused(fault) => fault as u64,
+    }
+}
+
+pub fn asked(got: Asked) -> u64 {
+    match got {
+        Asked::Last => LAST,
+        Asked::NotLast => NOT_LAST,
+        Asked::Open => OPEN,
+        Asked::Refused(fault) => fault as u64,
+    }
+}
+
+pub fn showing(got: Showing) -> u64 {
+    match got {
+        Showing::Shown => SHOWN,
+        Showing::Decided => DECIDED,
+        Showing::Refused(fault) => fault as u64,
+    }
+}
+
+pub fn checked(got: Checked) -> u64 {
+    match got {
+        Checked::Fits => FITS,
+        Checked::FitsNot => FITS_NOT,
+        Checked::Refused(fault) => fault as u64,
+    }
+}
+
+// Where a written record ends. Refusals are told from the positions, which are larger than 15 in all cases here.
+pub fn writing(got: Writing) -> u64 {
+    match got {
+        Writing::Next(next) => next as u64,
+        Writing::Refused(fault) => fault as u64,
+    }
+}
+
+// The place of a serial.
+pub fn found(got: Found) -> u64 {
+    match got {
+        Found::At(place) => place.0 as u64,
+        Found::Nothing => NOTHING,
+    }
+}
+
+// A set of small places: the sum of their bits.
+pub fn set(got: PlaceSet) -> u64 {
+    if got.high != 0 {
+        return HIGH;
+    }
+    got.low
+}
+
+pub fn truth(got: bool) -> u64 {
+    if got {
+        return 1;
+    }
+    0
+}
