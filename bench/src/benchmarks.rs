@@ -1,0 +1,139 @@
+// The library's calls beside plain Rust's, on the same input. Buffers are not cleared between calls, and all is in the cache.
+use crate::make::{self, Group, Layout, SIZES};
+use crate::plain::Kind::{self, Full, Short};
+use crate::plain::record;
+use crate::plain::recovery::{Answer, Recovery};
+use crate::plain::set::below;
+use crate::proved::{self, State};
+use crate::random::Random;
+use crate::timing::{Table, calls};
+use std::hint::black_box;
+
+pub fn run() {
+    let mut table = Table::default();
+    reading(&mut table);
+    for kind in [Full, Short] {
+        offering(&mut table, kind);
+    }
+    for kind in [Full, Short] {
+        asking(&mut table, kind);
+    }
+    for kind in [Full, Short] {
+        showing(&mut table, kind);
+    }
+    for kind in [Full, Short] {
+        checking(&mut table, kind);
+    }
+    table.print();
+}
+
+fn word(kind: Kind) -> &'static str {
+    if kind == Full { "full" } else { "short" }
+}
+
+// The longest record of a roster: all are mourned.
+fn reading(table: &mut Table) {
+    for (order, sizes) in [("random order", &SIZES[..]), ("rising order", &[128]), ("one hash for all", &[128])] {
+        for &n in sizes {
+            let bytes = Layout::new(Short, &make::ordered(order, n), n / 2, below(n)).bytes();
+            let (mut words, mut roster) = ([0; 7], Vec::with_capacity(128));
+            assert_eq!((proved::read_lone(&bytes, &mut words), record::read_lone(&bytes, &mut roster).is_ok()), (0, true));
+            let times = calls(
+                || _ = black_box(proved::read_lone(black_box(&bytes), &mut words)),
+                || _ = black_box(record::read_lone(black_box(&bytes), &mut roster)),
+            );
+            table.add(&format!("reading the longest record, {order}"), n, times);
+        }
+    }
+}
+
+// A group, its records in some order, and both recoveries with so many of them taken.
+struct Scene {
+    group: Group,
+    records: Vec<Vec<u8>>,
+    library: State,
+    plain: Recovery,
+}
+
+fn scene(seed: u64, kind: Kind, n: usize, percent: usize, taken: usize) -> Scene {
+    let mut random = Random::new(seed);
+    let truth = make::history_of(&mut random, kind, n, percent);
+    let group = Group { kind, roster: make::ordered("random order", n), truth };
+    let mut records: Vec<Vec<u8>> = (0..n).map(|p| group.record(p).bytes()).collect();
+    random.shuffle(&mut records);
+    let mut library = State::zero();
+    library.open(kind as u8, &group.roster);
+    let mut plain = Recovery::new(kind, &group.roster);
+    for record in &records[..taken] {
+        assert_eq!((library.offer(record), plain.offer(record).is_ok()), (0, true));
+    }
+    Scene { group, records, library, plain }
+}
+
+// Half of the members are back, each of which has heard about two others; with an open place.
+fn half_back(kind: Kind, n: usize) -> (Scene, usize) {
+    let scenes = (0..).map(|seed| scene(seed, kind, n, 400 / n, n / 2));
+    let open = |scene: &Scene| (0..n).rfind(|&place| scene.plain.ask(place) == Ok(Answer::Open));
+    scenes.filter_map(|scene| open(&scene).map(|place| (scene, place))).next().expect("one of them all")
+}
+
+// Every member's record, taken one after the other by a recovery with nobody back, which is laid ready each time.
+fn offering(table: &mut Table, kind: Kind) {
+    for n in SIZES {
+        let Scene { records, library, mut plain, .. } = scene(0, kind, n, 50, 0);
+        let mut state = library.clone();
+        let times = calls(
+            || {
+                state.clone_from(&library);
+                records.iter().for_each(|record| _ = black_box(state.offer(black_box(record))));
+            },
+            || {
+                plain.reset();
+                records.iter().for_each(|record| _ = black_box(plain.offer(black_box(record))));
+            },
+        );
+        table.add(&format!("offering every record, {}", word(kind)), n, times);
+    }
+}
+
+// All places, with half of the members back.
+fn asking(table: &mut Table, kind: Kind) {
+    for from_rows in [true, false] {
+        for n in SIZES {
+            let (Scene { library, plain, .. }, _) = half_back(kind, n);
+            let ask = if from_rows { Recovery::ask_from_rows } else { Recovery::ask };
+            let times = calls(
+                || (0..n).for_each(|place| _ = black_box(library.ask(black_box(place)))),
+                || (0..n).for_each(|place| _ = black_box(ask(&plain, black_box(place)))),
+            );
+            let how = if from_rows { "plain from the rows" } else { "plain keeps the mourned set" };
+            table.add(&format!("asking every place, {}, {how}", word(kind)), n, times);
+        }
+    }
+}
+
+// The last open place.
+fn showing(table: &mut Table, kind: Kind) {
+    for n in SIZES {
+        let (Scene { library, plain, .. }, place) = half_back(kind, n);
+        let (mut first, mut second) = ([0; 2048], [0; 2048]);
+        assert_eq!((library.show(place, &mut first, &mut second), plain.show(place, &mut first, &mut second).is_ok()), (0, true));
+        let (mut their_first, mut their_second) = ([0; 2048], [0; 2048]);
+        let times = calls(
+            || _ = black_box(library.show(black_box(place), &mut their_first, &mut their_second)),
+            || _ = black_box(plain.show(black_box(place), &mut first, &mut second)),
+        );
+        table.add(&format!("showing a place, {}", word(kind)), n, times);
+    }
+}
+
+// A history that fits, with half of the members back.
+fn checking(table: &mut Table, kind: Kind) {
+    for n in SIZES {
+        let Scene { group, library, plain, .. } = scene(0, kind, n, 50, n / 2);
+        let history = make::history_bytes(&group.truth);
+        assert_eq!((library.check(&history), plain.check(&history)), (37, Ok(true)));
+        let times = calls(|| _ = black_box(library.check(black_box(&history))), || _ = black_box(plain.check(black_box(&history))));
+        table.add(&format!("checking a history that fits, {}", word(kind)), n, times);
+    }
+}

@@ -1,0 +1,212 @@
+// Lists of calls on a recovery.
+use super::{Run, garbled, list_length, noise, opened, set_of, words};
+use crate::make::{self, Group};
+use crate::plain::Kind;
+use crate::plain::recovery::{Answer, Offer, Recovery, Showing};
+use crate::plain::set::{Set, below, members};
+use crate::proved::State;
+
+// The library's recovery, what it has to be, and the plain one.
+struct Pair {
+    library: State,
+    wanted: State,
+    plain: Recovery,
+    group: Group,
+}
+
+pub fn list(run: &mut Run) {
+    for _ in 0..run.random.below(3) {
+        try_open(run);
+    }
+    let group = Group::any(&mut run.random);
+    let mut pair = if run.random.chance(15) { unmade(run, group) } else { open(run, group) };
+    for _ in 0..list_length(&mut run.random) {
+        match run.random.below(100) {
+            0..45 => offer(run, &mut pair),
+            45..60 => ask(run, &pair),
+            60..64 => find(run, &pair),
+            64..72 => sets(run, &pair),
+            72..82 => show(run, &pair),
+            82..93 => check(run, &pair),
+            _ => write(run, &pair),
+        }
+        run.same("the recovery afterwards", &pair.wanted, &pair.library);
+    }
+    for place in 0..pair.plain.roster.len() {
+        ask_one(run, &pair, place);
+    }
+}
+
+// An opening that is refused often.
+fn try_open(run: &mut Run) {
+    let (kind, list) = (make::kind(&mut run.random), make::list(&mut run.random));
+    let mut library = noise(&mut run.random);
+    let before = library.clone();
+    run.begin("open", &[kind as usize, list.len()], &[]);
+    let plain = Recovery::open(kind, &list);
+    let code = library.open(kind, &list);
+    run.answer(plain.as_ref().map_or_else(|refusal| *refusal, |_| 0) as u64, code as u64);
+    run.same("the recovery afterwards", &if plain.is_ok() { opened(kind, &list) } else { before }, &library);
+}
+
+fn open(run: &mut Run, group: Group) -> Pair {
+    let mut library = noise(&mut run.random);
+    run.begin("open", &[group.kind as usize, group.roster.len()], &[]);
+    let code = library.open(group.kind as u8, &group.roster);
+    run.answer(0, code as u64);
+    let wanted = opened(group.kind as u8, &group.roster);
+    run.same("the recovery afterwards", &wanted, &library);
+    let plain = Recovery::open(group.kind as u8, &group.roster).expect("a roster");
+    Pair { library, wanted, plain, group }
+}
+
+// A recovery that no call has made, and the plain one that it stands for.
+fn unmade(run: &mut Run, group: Group) -> Pair {
+    let library = garbled(&mut run.random, group.kind as u8, &group.roster);
+    let n = library.head[1].min(128) as usize;
+    let mut plain = Recovery::new(if library.head[0] == 2 { Kind::Short } else { Kind::Full }, &library.serials[..n]);
+    plain.returned = set_of(&library.head[2..]) & below(n);
+    for p in members(plain.returned) {
+        plain.rows[p] = set_of(&library.rows[2 * p..]) & below(n);
+        plain.mourned |= plain.rows[p];
+    }
+    Pair { wanted: library.clone(), library, plain, group }
+}
+
+fn offer(run: &mut Run, pair: &mut Pair) {
+    let bytes = make::offer(&mut run.random, &pair.group);
+    run.begin("offer", &[], &bytes);
+    let before = pair.plain.returned;
+    let plain = match pair.plain.offer(&bytes) {
+        Ok(Offer::Taken) => 0,
+        Ok(Offer::Repeated) => 32,
+        Err(refusal) => refusal,
+    };
+    let library = pair.library.offer(&bytes);
+    run.answer(plain as u64, library as u64);
+    for own in members(pair.plain.returned & !before) {
+        let back = words(set_of(&pair.wanted.head[2..]) | 1 << own);
+        pair.wanted.head[2..].copy_from_slice(&back);
+        pair.wanted.rows[2 * own..2 * own + 2].copy_from_slice(&words(pair.plain.rows[own]));
+    }
+}
+
+fn ask_one(run: &mut Run, pair: &Pair, place: usize) {
+    run.begin("ask", &[place], &[]);
+    let plain = match pair.plain.ask(place) {
+        Ok(Answer::Last) => 33,
+        Ok(Answer::NotLast) => 34,
+        Ok(Answer::Open) => 35,
+        Err(refusal) => refusal,
+    };
+    run.answer(plain as u64, pair.library.ask(place) as u64);
+}
+
+fn ask(run: &mut Run, pair: &Pair) {
+    let place = make::place(&mut run.random, pair.plain.roster.len());
+    ask_one(run, pair, place);
+}
+
+fn find(run: &mut Run, pair: &Pair) {
+    let known = run.random.pick(&pair.group.roster);
+    let any = run.random.next() as u32;
+    let serial = run.random.pick(&[known, known, known ^ 1 << 16, known ^ 1, known.swap_bytes(), 0, 1, any, u32::MAX]);
+    run.begin("find", &[serial as usize], &[]);
+    let plain = pair.plain.find(serial).unwrap_or(128);
+    let library = pair.library.find(serial);
+    run.same("place", &plain, &library);
+    run.answer((plain == 128) as u64, (library == 128) as u64);
+}
+
+fn sets(run: &mut Run, pair: &Pair) {
+    let noise = words(run.random.bits());
+    let (mut unmourned, mut absent) = (noise, noise);
+    run.begin("unmourned", &[], &[]);
+    pair.library.unmourned(&mut unmourned);
+    run.same("set", &words(pair.plain.unmourned()), &unmourned);
+    run.begin("unmourned_absent", &[], &[]);
+    pair.library.unmourned_absent(&mut absent);
+    run.same("set", &words(pair.plain.unmourned_absent()), &absent);
+    run.begin("unmourned_count", &[], &[]);
+    run.same("count", &pair.plain.unmourned_count(), &pair.library.unmourned_count());
+    run.begin("settled", &[], &[]);
+    run.answer(pair.plain.settled() as u64, pair.library.settled() as u64);
+}
+
+fn show(run: &mut Run, pair: &Pair) {
+    let n = pair.plain.roster.len();
+    let rows = 16 * n;
+    let mut place = make::place(&mut run.random, n);
+    if run.random.chance(50) {
+        // the next open place, if there is one
+        place = (place..n).find(|&p| pair.plain.ask(p) == Ok(Answer::Open)).unwrap_or(place);
+    }
+    let lengths = [make::length(&mut run.random, rows), make::length(&mut run.random, rows)];
+    let (mut first, mut their_first) = run.buffers(lengths[0]);
+    let (mut second, mut their_second) = run.buffers(lengths[1]);
+    run.begin("show", &[place, lengths[0], lengths[1]], &[]);
+    let plain = match pair.plain.show(place, first.part(), second.part()) {
+        Ok(Showing::Shown) => 0,
+        Ok(Showing::Decided) => 36,
+        Err(refusal) => refusal,
+    };
+    let library = pair.library.show(place, their_first.part(), their_second.part());
+    run.answer(plain as u64, library as u64);
+    run.same("the first buffer afterwards", &first, &their_first);
+    run.same("the second buffer afterwards", &second, &their_second);
+}
+
+// Rows that fit mostly, but for a bit here and there: the recorded ones, those shown, the true ones, or noise.
+fn some_history(run: &mut Run, pair: &Pair) -> Vec<u8> {
+    let n = pair.plain.roster.len();
+    let mut rows = pair.plain.rows.clone();
+    match run.random.below(8) {
+        0 => rows.fill_with(|| run.random.bits() & below(n)),
+        1..3 => {
+            let (mut first, mut second) = (vec![0; 16 * n], vec![0; 16 * n]);
+            let place = run.random.below(n + 1);
+            let _ = pair.plain.show(place, &mut first, &mut second);
+            rows = second.chunks_exact(16).map(|x| Set::from_le_bytes(x.try_into().expect("16 bytes"))).collect();
+        }
+        3..6 if pair.group.truth.len() == n => {
+            let absent = below(n) & !pair.plain.returned;
+            members(absent).for_each(|p| rows[p] = pair.group.truth[p]);
+        }
+        _ => {}
+    }
+    for _ in 0..run.random.below(3) {
+        if n > 0 && run.random.chance(30) {
+            let p = run.random.below(n);
+            rows[p] ^= 1 << if run.random.chance(80) { run.random.below(n) } else { run.random.below(128) };
+        }
+    }
+    make::history_bytes(&rows)
+}
+
+fn check(run: &mut Run, pair: &Pair) {
+    let mut history = some_history(run, pair);
+    let length = if run.random.chance(70) { history.len() } else { make::length(&mut run.random, history.len()) };
+    history.resize_with(length, || run.random.next() as u8);
+    run.begin("check", &[length], &history);
+    let plain = match pair.plain.check(&history) {
+        Ok(true) => 37,
+        Ok(false) => 38,
+        Err(refusal) => refusal,
+    };
+    run.answer(plain as u64, pair.library.check(&history) as u64);
+}
+
+fn write(run: &mut Run, pair: &Pair) {
+    let n = pair.plain.roster.len();
+    let place = make::place(&mut run.random, n);
+    let named = pair.plain.rows.get(place).map_or(0, |row| row.count_ones() as usize);
+    let size = 7 + 4 * (n + named);
+    let length = make::length(&mut run.random, size) + run.random.pick(&[0, 0, 5, 30]);
+    let at = make::position(&mut run.random, length, size);
+    let (mut out, mut theirs) = run.buffers(length);
+    run.begin("write", &[place, length, at], &[]);
+    let plain = pair.plain.write(place, out.part(), at);
+    let library = pair.library.write(place, theirs.part(), at);
+    run.end(plain, library);
+    run.same("the buffer afterwards", &out, &theirs);
+}

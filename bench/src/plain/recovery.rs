@@ -1,0 +1,228 @@
+// A recovery: offering, asking, showing, checking.
+use super::record::{self, Record};
+use super::set::{Set, below, has, members};
+use super::{Kind, Refusal, check_roster};
+
+#[derive(Clone, Debug)]
+pub struct Recovery {
+    pub kind: Kind,
+    pub roster: Vec<u32>,
+    pub returned: Set,
+    // all that returned records name
+    pub mourned: Set,
+    // the rows of those that are back, and empty ones elsewhere
+    pub rows: Vec<Set>,
+    // the roster of the record that is being offered
+    theirs: Vec<u32>,
+}
+
+#[derive(Clone, Copy, Debug, PartialEq, Eq)]
+pub enum Offer {
+    Taken,
+    Repeated,
+}
+
+#[derive(Clone, Copy, Debug, PartialEq, Eq)]
+pub enum Answer {
+    Last,
+    NotLast,
+    Open,
+}
+
+#[derive(Clone, Copy, Debug, PartialEq, Eq)]
+pub enum Showing {
+    Shown,
+    Decided,
+}
+
+impl Recovery {
+    pub fn new(kind: Kind, roster: &[u32]) -> Self {
+        let rows = vec![0; roster.len()];
+        Recovery { kind, roster: roster.to_vec(), returned: 0, mourned: 0, rows, theirs: Vec::with_capacity(128) }
+    }
+
+    pub fn open(kind: u8, list: &[u32]) -> Result<Self, Refusal> {
+        let kind = Kind::from_byte(kind)?;
+        check_roster(list)?;
+        Ok(Recovery::new(kind, list))
+    }
+
+    // Goes back to nobody returned, and allocates nothing.
+    pub fn reset(&mut self) {
+        (self.returned, self.mourned) = (0, 0);
+        self.rows.fill(0);
+    }
+
+    pub fn offer(&mut self, bytes: &[u8]) -> Result<Offer, Refusal> {
+        let mut theirs = std::mem::take(&mut self.theirs);
+        let outcome = record::read_lone(bytes, &mut theirs).and_then(|record| self.judge(&record, &theirs));
+        self.theirs = theirs;
+        outcome
+    }
+
+    // A record that was read, with its roster.
+    pub fn judge(&mut self, record: &Record, roster: &[u32]) -> Result<Offer, Refusal> {
+        let (own, mourned) = (record.own, record.mourned);
+        if record.kind != self.kind || roster != self.roster {
+            return Err(9);
+        }
+        if has(self.returned, own) {
+            return if self.rows[own] == mourned { Ok(Offer::Repeated) } else { Err(10) };
+        }
+        if !self.accepts(own, mourned) {
+            return Err(11);
+        }
+        self.returned |= 1 << own;
+        self.mourned |= mourned;
+        self.rows[own] = mourned;
+        Ok(Offer::Taken)
+    }
+
+    // Whether some history fits the records taken and this one too.
+    fn accepts(&self, own: usize, row: Set) -> bool {
+        match self.kind {
+            Kind::Short => !has(self.and_before(row), own),
+            Kind::Full => {
+                !has(row, own)
+                    && members(row & self.returned).all(|m| self.rows[m] & !row == 0)
+                    && (!has(self.mourned, own) || self.rows.iter().all(|&theirs| !has(theirs, own) || row & !theirs == 0))
+            }
+        }
+    }
+
+    // A set, and all that is before one of it by returned records.
+    fn and_before(&self, set: Set) -> Set {
+        let (mut seen, mut left) = (set, set & self.returned);
+        while left != 0 {
+            let new = self.rows[left.trailing_zeros() as usize] & !seen;
+            left &= left - 1;
+            left |= new & self.returned;
+            seen |= new;
+        }
+        seen
+    }
+
+    fn blockers(&self, place: usize, mourned: Set) -> Set {
+        let others = below(self.roster.len()) & !self.returned & !(1 << place);
+        match self.kind {
+            Kind::Full => others & !mourned,
+            Kind::Short if others == 0 => 0,
+            Kind::Short => others & !self.and_before(self.rows[place]),
+        }
+    }
+
+    fn answer(&self, place: usize, mourned: Set) -> Answer {
+        if has(mourned, place) {
+            Answer::NotLast
+        } else if self.blockers(place, mourned) == 0 {
+            Answer::Last
+        } else {
+            Answer::Open
+        }
+    }
+
+    pub fn ask(&self, place: usize) -> Result<Answer, Refusal> {
+        if place >= self.roster.len() { Err(12) } else { Ok(self.answer(place, self.mourned)) }
+    }
+
+    // The same answer with nothing but the rows to go by, as the library has it.
+    pub fn ask_from_rows(&self, place: usize) -> Result<Answer, Refusal> {
+        let mourned = self.rows.iter().fold(0, |all, row| all | row);
+        if place >= self.roster.len() { Err(12) } else { Ok(self.answer(place, mourned)) }
+    }
+
+    pub fn find(&self, serial: u32) -> Option<usize> {
+        self.roster.iter().position(|&x| x == serial)
+    }
+
+    pub fn unmourned(&self) -> Set {
+        below(self.roster.len()) & !self.mourned
+    }
+
+    pub fn unmourned_absent(&self) -> Set {
+        self.unmourned() & !self.returned
+    }
+
+    pub fn unmourned_count(&self) -> usize {
+        self.unmourned().count_ones() as usize
+    }
+
+    pub fn settled(&self) -> bool {
+        members(self.unmourned()).all(|place| self.answer(place, self.mourned) != Answer::Open)
+    }
+
+    pub fn show(&self, place: usize, first: &mut [u8], second: &mut [u8]) -> Result<Showing, Refusal> {
+        let n = self.roster.len();
+        if self.ask(place)? != Answer::Open {
+            return Ok(Showing::Decided);
+        }
+        if first.len() < 16 * n || second.len() < 16 * n {
+            return Err(13);
+        }
+        for (part, row) in first.chunks_exact_mut(16).zip(&self.rows) {
+            part.copy_from_slice(&row.to_le_bytes());
+        }
+        second[..16 * n].copy_from_slice(&first[..16 * n]);
+        let blocker = self.blockers(place, self.mourned).trailing_zeros() as usize;
+        let heard = match self.kind {
+            Kind::Full => self.rows[place],
+            Kind::Short => 0,
+        };
+        second[16 * blocker..][..16].copy_from_slice(&(heard | 1 << place).to_le_bytes());
+        Ok(Showing::Shown)
+    }
+
+    pub fn check(&self, history: &[u8]) -> Result<bool, Refusal> {
+        let n = self.roster.len();
+        let bytes = history.get(..16 * n).ok_or(13)?;
+        let mut rows = [0; 128];
+        for (row, part) in rows.iter_mut().zip(bytes.chunks_exact(16)) {
+            *row = Set::from_le_bytes(part.try_into().expect("16 bytes"));
+        }
+        let rows = &rows[..n];
+        if rows.iter().any(|row| row & !below(n) != 0) {
+            return Err(15);
+        }
+        Ok(members(self.returned).all(|p| rows[p] == self.rows[p]) && is_history(self.kind, rows))
+    }
+
+    pub fn write(&self, place: usize, out: &mut [u8], at: usize) -> Result<usize, Refusal> {
+        if place >= self.roster.len() {
+            return Err(12);
+        }
+        if !has(self.returned, place) {
+            return Err(14);
+        }
+        record::write(self.kind, place, &self.roster, self.rows[place], out, at)
+    }
+}
+
+// Whether rows without a place off the roster are a history.
+fn is_history(kind: Kind, rows: &[Set]) -> bool {
+    match kind {
+        // closed rows have no circle where nobody is in its own
+        Kind::Full => rows.iter().enumerate().all(|(p, &row)| !has(row, p) && members(row).all(|m| rows[m] & !row == 0)),
+        Kind::Short => {
+            let mut seen = 0;
+            (0..rows.len()).all(|p| has(seen, p) || no_circle(rows, p, &mut seen, 0))
+        }
+    }
+}
+
+// Goes down from a place that was not seen, over those not seen, and stops at one that stands on the path to itself.
+fn no_circle(rows: &[Set], place: usize, seen: &mut Set, path: Set) -> bool {
+    let path = path | 1 << place;
+    *seen |= 1 << place;
+    if rows[place] & path != 0 {
+        return false;
+    }
+    loop {
+        let left = rows[place] & !*seen;
+        if left == 0 {
+            return true;
+        }
+        if !no_circle(rows, left.trailing_zeros() as usize, seen, path) {
+            return false;
+        }
+    }
+}

@@ -1,0 +1,145 @@
+// The proved library: its functions as include/goatmonth.h declares them, and methods that lend slices.
+
+// A recovery or a day: gm_recovery and gm_day of the header.
+#[repr(C)]
+#[derive(Clone, PartialEq, Eq)]
+pub struct State {
+    pub head: [u64; 4],
+    pub serials: [u32; 128],
+    pub rows: [u64; 256],
+}
+
+// All words that are not 0, with their places.
+impl std::fmt::Debug for State {
+    fn fmt(&self, f: &mut std::fmt::Formatter) -> std::fmt::Result {
+        write!(f, "head {:x?}", self.head)?;
+        self.serials.iter().enumerate().filter(|x| *x.1 != 0).try_for_each(|(k, x)| write!(f, " serial {k} {x}"))?;
+        self.rows.iter().enumerate().filter(|x| *x.1 != 0).try_for_each(|(k, x)| write!(f, " row word {k} {x:x}"))
+    }
+}
+
+// gm_end of the header.
+#[repr(C)]
+#[derive(Clone, Copy, Debug, PartialEq, Eq)]
+pub struct End {
+    pub refusal: u64,
+    pub next: u64,
+}
+
+type Head = [u64; 4];
+type Serials = [u32; 128];
+type Rows = [u64; 256];
+
+unsafe extern "C" {
+    fn gm_open(kind: u8, list: *const u32, length: usize, head: &mut Head, serials: &mut Serials, rows: &mut Rows) -> u8;
+    fn gm_offer(head: &mut Head, serials: &Serials, rows: &mut Rows, bytes: *const u8, length: usize) -> u8;
+    fn gm_ask(head: &Head, rows: &Rows, place: usize) -> u8;
+    fn gm_find(head: &Head, serials: &Serials, serial: u32) -> usize;
+    fn gm_unmourned(head: &Head, rows: &Rows, out: &mut [u64; 2]);
+    fn gm_unmourned_absent(head: &Head, rows: &Rows, out: &mut [u64; 2]);
+    fn gm_unmourned_count(head: &Head, rows: &Rows) -> usize;
+    fn gm_settled(head: &Head, rows: &Rows) -> u8;
+    fn gm_show(head: &Head, rows: &Rows, place: usize, first: *mut u8, first_length: usize, second: *mut u8, second_length: usize) -> u8;
+    fn gm_check(head: &Head, rows: &Rows, history: *const u8, length: usize) -> u8;
+    fn gm_write(head: &Head, serials: &Serials, rows: &Rows, place: usize, out: *mut u8, length: usize, at: usize) -> End;
+    fn gm_read(bytes: *const u8, length: usize, at: usize, out: &mut [u64; 7]) -> u8;
+    fn gm_read_lone(bytes: *const u8, length: usize, out: &mut [u64; 7]) -> u8;
+    fn gm_roster_is(bytes: *const u8, length: usize, at: usize, count: usize, list: *const u32, list_length: usize) -> u8;
+    fn gm_copy_roster(bytes: *const u8, length: usize, at: usize, count: usize, list: &mut Serials) -> u8;
+    fn gm_write_record(
+        kind: u8,
+        own: usize,
+        roster: *const u32,
+        roster_length: usize,
+        mourned: &[u64; 2],
+        out: *mut u8,
+        length: usize,
+        at: usize,
+    ) -> End;
+    fn gm_day_open(kind: u8, list: *const u32, length: usize, head: &mut Head, serials: &mut Serials, rows: &mut Rows) -> u8;
+    fn gm_day_event(head: &mut Head, serials: &Serials, rows: &mut Rows, kind: u8, place: usize, other: usize) -> u8;
+    fn gm_day_write(head: &Head, serials: &Serials, rows: &Rows, place: usize, out: *mut u8, length: usize, at: usize) -> End;
+}
+
+// Each call below lends slices and arrays that Rust knows to be valid and apart, which is all that the header asks.
+impl State {
+    pub fn zero() -> Self {
+        State { head: [0; 4], serials: [0; 128], rows: [0; 256] }
+    }
+
+    pub fn open(&mut self, kind: u8, list: &[u32]) -> u8 {
+        unsafe { gm_open(kind, list.as_ptr(), list.len(), &mut self.head, &mut self.serials, &mut self.rows) }
+    }
+
+    pub fn offer(&mut self, bytes: &[u8]) -> u8 {
+        unsafe { gm_offer(&mut self.head, &self.serials, &mut self.rows, bytes.as_ptr(), bytes.len()) }
+    }
+
+    pub fn ask(&self, place: usize) -> u8 {
+        unsafe { gm_ask(&self.head, &self.rows, place) }
+    }
+
+    pub fn find(&self, serial: u32) -> usize {
+        unsafe { gm_find(&self.head, &self.serials, serial) }
+    }
+
+    pub fn unmourned(&self, out: &mut [u64; 2]) {
+        unsafe { gm_unmourned(&self.head, &self.rows, out) }
+    }
+
+    pub fn unmourned_absent(&self, out: &mut [u64; 2]) {
+        unsafe { gm_unmourned_absent(&self.head, &self.rows, out) }
+    }
+
+    pub fn unmourned_count(&self) -> usize {
+        unsafe { gm_unmourned_count(&self.head, &self.rows) }
+    }
+
+    pub fn settled(&self) -> u8 {
+        unsafe { gm_settled(&self.head, &self.rows) }
+    }
+
+    pub fn show(&self, place: usize, first: &mut [u8], second: &mut [u8]) -> u8 {
+        unsafe { gm_show(&self.head, &self.rows, place, first.as_mut_ptr(), first.len(), second.as_mut_ptr(), second.len()) }
+    }
+
+    pub fn check(&self, history: &[u8]) -> u8 {
+        unsafe { gm_check(&self.head, &self.rows, history.as_ptr(), history.len()) }
+    }
+
+    pub fn write(&self, place: usize, out: &mut [u8], at: usize) -> End {
+        unsafe { gm_write(&self.head, &self.serials, &self.rows, place, out.as_mut_ptr(), out.len(), at) }
+    }
+
+    pub fn day_open(&mut self, kind: u8, list: &[u32]) -> u8 {
+        unsafe { gm_day_open(kind, list.as_ptr(), list.len(), &mut self.head, &mut self.serials, &mut self.rows) }
+    }
+
+    pub fn day_event(&mut self, kind: u8, place: usize, other: usize) -> u8 {
+        unsafe { gm_day_event(&mut self.head, &self.serials, &mut self.rows, kind, place, other) }
+    }
+
+    pub fn day_write(&self, place: usize, out: &mut [u8], at: usize) -> End {
+        unsafe { gm_day_write(&self.head, &self.serials, &self.rows, place, out.as_mut_ptr(), out.len(), at) }
+    }
+}
+
+pub fn read(bytes: &[u8], at: usize, out: &mut [u64; 7]) -> u8 {
+    unsafe { gm_read(bytes.as_ptr(), bytes.len(), at, out) }
+}
+
+pub fn read_lone(bytes: &[u8], out: &mut [u64; 7]) -> u8 {
+    unsafe { gm_read_lone(bytes.as_ptr(), bytes.len(), out) }
+}
+
+pub fn roster_is(bytes: &[u8], at: usize, count: usize, list: &[u32]) -> u8 {
+    unsafe { gm_roster_is(bytes.as_ptr(), bytes.len(), at, count, list.as_ptr(), list.len()) }
+}
+
+pub fn copy_roster(bytes: &[u8], at: usize, count: usize, list: &mut [u32; 128]) -> u8 {
+    unsafe { gm_copy_roster(bytes.as_ptr(), bytes.len(), at, count, list) }
+}
+
+pub fn write_record(kind: u8, own: usize, roster: &[u32], mourned: &[u64; 2], out: &mut [u8], at: usize) -> End {
+    unsafe { gm_write_record(kind, own, roster.as_ptr(), roster.len(), mourned, out.as_mut_ptr(), out.len(), at) }
+}

@@ -1,0 +1,158 @@
+// The answers against all histories of small rosters, and against days that end.
+use super::open;
+use crate::make::{self, Group, Layout};
+use crate::plain::Kind::{self, Full, Short};
+use crate::plain::day::{Day, Event};
+use crate::plain::recovery::{Answer::*, Offer::*, Recovery, Showing};
+use crate::plain::set::{Set, has, members};
+use crate::random::Random;
+
+// Whether rows are a history, by the definition: before is closed in rounds.
+fn is_history(kind: Kind, rows: &[Set]) -> bool {
+    let mut before = rows.to_vec();
+    for _ in rows {
+        before = before.iter().map(|&row| members(row).fold(row, |all, m| all | before[m])).collect();
+    }
+    let acyclic = before.iter().enumerate().all(|(p, &row)| !has(row, p));
+    let closed = rows.iter().all(|&row| members(row).all(|m| rows[m] & !row == 0));
+    acyclic && (kind == Short || closed)
+}
+
+// The rows that a number spells, n bits each.
+fn rows_of(n: usize, number: usize) -> Vec<Set> {
+    (0..n).map(|p| (number >> (p * n)) as Set & ((1 << n) - 1)).collect()
+}
+
+// A pile: for each place its record's set, or none. All piles of n places that some history fits are tried in every call.
+pub fn enumeration() -> u64 {
+    let mut checks = 0;
+    for kind in [Full, Short] {
+        for n in 1..=3 {
+            let all: Vec<(Vec<Set>, bool)> =
+                (0..1 << (n * n)).map(|x| rows_of(n, x)).map(|rows| (rows.clone(), is_history(kind, &rows))).collect();
+            let choices = (1usize << n) + 1;
+            for number in 0..choices.pow(n as u32) {
+                let pile: Vec<Option<Set>> =
+                    (0..n as u32).map(|p| (number / choices.pow(p) % choices).checked_sub(1).map(|row| row as Set)).collect();
+                checks += pile_checks(kind, &pile, &all);
+            }
+        }
+    }
+    checks
+}
+
+fn fits(pile: &[Option<Set>], rows: &[Set]) -> bool {
+    pile.iter().zip(rows).all(|(record, row)| record.is_none_or(|record| record == *row))
+}
+
+fn pile_checks(kind: Kind, pile: &[Option<Set>], all: &[(Vec<Set>, bool)]) -> u64 {
+    let n = pile.len();
+    let fitting: Vec<&Vec<Set>> = all.iter().filter(|(rows, history)| *history && fits(pile, rows)).map(|(rows, _)| rows).collect();
+    if fitting.is_empty() {
+        return 0;
+    }
+    let mut r = open(kind, n as u32);
+    let record = |p: usize, row: Set| Layout::new(kind, &(101..101 + n as u32).collect::<Vec<_>>(), p, row).bytes();
+    for (p, row) in pile.iter().enumerate() {
+        if let Some(row) = row {
+            assert_eq!(r.offer(&record(p, *row)), Ok(Taken));
+        }
+    }
+    for p in 0..n {
+        for row in 0..1 << n {
+            let wanted = match pile[p] {
+                Some(own) => {
+                    if own == row {
+                        Ok(Repeated)
+                    } else {
+                        Err(10)
+                    }
+                }
+                None => {
+                    if fitting.iter().any(|rows| rows[p] == row) {
+                        Ok(Taken)
+                    } else {
+                        Err(11)
+                    }
+                }
+            };
+            assert_eq!(r.clone().offer(&record(p, row)), wanted, "{kind:?} {pile:?} {p} {row}");
+        }
+    }
+    let last_in = |rows: &[Set], p: usize| rows.iter().all(|&row| !has(row, p));
+    for p in 0..n {
+        let count = fitting.iter().filter(|rows| last_in(rows, p)).count();
+        let wanted = if count == fitting.len() {
+            Last
+        } else if count == 0 {
+            NotLast
+        } else {
+            Open
+        };
+        assert_eq!((r.ask(p), r.ask_from_rows(p)), (Ok(wanted), Ok(wanted)), "{kind:?} {pile:?} {p}");
+        let (mut a, mut b) = (vec![1; 16 * n], vec![1; 16 * n]);
+        assert_eq!(r.show(p, &mut a, &mut b), Ok(if wanted == Open { Showing::Shown } else { Showing::Decided }));
+        if wanted == Open {
+            let rows = |bytes: &[u8]| bytes.chunks(16).map(|x| Set::from_le_bytes(x.try_into().unwrap())).collect::<Vec<_>>();
+            let (a, b) = (rows(&a), rows(&b));
+            assert!(fitting.contains(&&a) && last_in(&a, p) && fitting.contains(&&b) && !last_in(&b, p), "{kind:?} {pile:?} {p}");
+        }
+    }
+    for (rows, history) in all {
+        assert_eq!(r.check(&make::history_bytes(rows)), Ok(*history && fits(pile, rows)), "{kind:?} {pile:?} {rows:?}");
+    }
+    let unmourned = (0..n).filter(|&p| r.ask(p) != Ok(NotLast)).fold(0, |set, p| set | 1 << p);
+    assert_eq!(
+        (r.unmourned(), r.unmourned_absent(), r.unmourned_count()),
+        (unmourned, unmourned & !r.returned, unmourned.count_ones() as usize)
+    );
+    assert_eq!(r.settled(), (0..n).all(|p| r.ask(p) != Ok(Open)));
+    (n + n * (1 << n) + all.len() + 4) as u64
+}
+
+// Days that end: every record is taken in any order, and what is answered on the way is true of the day.
+pub fn days() -> u64 {
+    let mut random = Random::new(6);
+    let mut checks = 0;
+    let stop = |place| Event { kind: 1, place, other: usize::MAX };
+    let mut day = Day::open(2, &[7, 8, 9]).unwrap();
+    assert_eq!(day.play(&[stop(0), Event { kind: 2, place: 1, other: 0 }, stop(0), stop(1)]), (2, Err(14)));
+    assert_eq!((day.stopped, &day.rows[..]), (1, &[0, 1, 0][..]));
+    let hear = |place, other| Event { kind: 2, place, other };
+    for (event, wanted) in [
+        (hear(1, 1), 14),
+        (hear(0, 0), 14),
+        (hear(3, 0), 12),
+        (hear(0, 3), 12),
+        (hear(usize::MAX, 0), 12),
+        (stop(3), 12),
+        (Event { kind: 0, place: 9, other: 9 }, 14),
+    ] {
+        assert_eq!(day.event(event), Err(wanted), "{event:?}");
+    }
+    for _ in 0..3_000 {
+        let group = Group::any(&mut random);
+        let n = group.roster.len();
+        let mut day = Day::open(group.kind as u8, &group.roster).unwrap();
+        let percent = random.pick(&[5, 30, 80]);
+        while day.stopped.count_ones() < n as u32 {
+            let kind = if random.chance(percent) { 1 } else { 2 };
+            let _ = day.event(Event { kind, place: random.below(n), other: random.below(n) });
+        }
+        let mut r = Recovery::open(group.kind as u8, &group.roster).unwrap();
+        let mut order: Vec<usize> = (0..n).collect();
+        random.shuffle(&mut order);
+        for p in order {
+            let mut out = [0; 1_031];
+            let end = day.write(p, &mut out, 0).unwrap();
+            assert_eq!(r.offer(&out[..end]), Ok(Taken));
+            for i in 0..n {
+                let last = day.rows.iter().all(|&row| !has(row, i));
+                assert!(r.ask(i) == Ok(Open) || r.ask(i) == Ok(if last { Last } else { NotLast }));
+                checks += 1;
+            }
+        }
+        assert!(r.settled());
+    }
+    checks
+}

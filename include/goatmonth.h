@@ -1,0 +1,312 @@
+/*
+ * Goatmonth: which controllers of a group stopped last, told from the records that the returned ones stored.
+ *
+ * The functions are proved code in a static library (`rt staticlib capi` writes target/staticlib/libcapi.a). They use no heap and no
+ * threads, and keep nothing between calls: a recovery, and a day, is a plain struct in the caller's memory, made by opening it and
+ * handed to every call. Copy it, store it or compare it as you like; calls on different structs may run at the same time.
+ *
+ * What the caller promises of each call:
+ *   - a pointer is never null. It is aligned for its type, and good for the length passed behind it, or for the size of the array
+ *     in the declaration. Where a length is 0, pass any pointer of that kind;
+ *   - what a call may write (every pointer without const) overlaps nothing else that is passed in the same call.
+ * Nothing else is asked. Every number and every byte has an answer, stated below: places and positions up to SIZE_MAX, damaged
+ * records, and whatever values the words of a struct hold.
+ *
+ * A refusal is a number from 1 to 15. A refused call writes nothing.
+ *
+ * The functions named gm_recovery_.., gm_day_start and so on are thin: they pass the parts of one struct to the library.
+ */
+#ifndef GOATMONTH_H
+#define GOATMONTH_H
+
+#include <stddef.h>
+#include <stdint.h>
+
+#ifdef __cplusplus
+extern "C" {
+#endif
+
+/* ---- numbers ---- */
+
+/* At most this many members, bytes of a record, and bytes of a history. */
+enum { GM_MEMBERS = 128, GM_RECORD_BYTES = 1031, GM_HISTORY_BYTES = 2048 };
+
+/* Kinds of group: in a full one all who run note a stop together, in a short one each notes what it hears itself. */
+enum { GM_FULL = 1, GM_SHORT = 2 };
+
+/* Events of a day. */
+enum { GM_STOP = 1, GM_HEAR = 2 };
+
+/* Answers that are no refusals. */
+enum {
+    GM_DONE = 0,        /* opened, taken, shown, read or written */
+    GM_REPEATED = 32,   /* the record of one that is back, the same as before */
+    GM_LAST = 33,       /* in every history that fits, nobody heard it stop */
+    GM_NOT_LAST = 34,   /* in every history that fits, somebody heard it stop */
+    GM_OPEN = 35,       /* two histories that fit disagree */
+    GM_DECIDED = 36,    /* nothing to show: the place is last or not last */
+    GM_FITS = 37,       /* the history agrees with the records */
+    GM_FITS_NOT = 38,   /* it does not */
+    GM_NOT_FOUND = 128  /* a serial that is not on the roster: no place has this number */
+};
+
+/* Refusals. 1 to 8 are faults of a record, and the first one from its front decides. */
+enum {
+    GM_ENDS_EARLY = 1,       /* the bytes stop within the record */
+    GM_UNKNOWN_KIND = 2,     /* neither GM_FULL nor GM_SHORT */
+    GM_BAD_COUNT = 3,        /* no member or more than 128, or more mourned than members */
+    GM_ZERO_SERIAL = 4,      /* a serial is 0 */
+    GM_TWICE = 5,            /* a serial stands on the roster twice */
+    GM_NOT_ON_ROSTER = 6,    /* the own serial, or a mourned one, is not on the roster */
+    GM_OUT_OF_ORDER = 7,     /* the mourned serials do not follow the roster's order, or one comes again */
+    GM_BYTES_AFTER = 8,      /* something follows a record that has to stand alone */
+    GM_OTHER_GROUP = 9,      /* the record's kind or roster, order included, is not the recovery's */
+    GM_OTHER_RECORD = 10,    /* this member is back already, with another mourned set */
+    GM_NO_HISTORY = 11,      /* no history agrees with this record and those taken */
+    GM_OFF_ROSTER = 12,      /* a place that the roster does not have */
+    GM_TOO_SHORT = 13,       /* a buffer ends too early */
+    GM_NOT_ALLOWED = 14,     /* an event that cannot happen now, or the record of one that runs or is not back */
+    GM_BIT_OFF_ROSTER = 15   /* a history names a place that the roster does not have */
+};
+
+/* ---- structs ---- */
+
+/*
+ * A recovery. head[0] is the kind (GM_SHORT is short, any other word counts as full), head[1] the number of members (above 128
+ * counts as 128), head[2] and head[3] the places that are back: place k is bit k of head[2], or bit k - 64 of head[3]. The first
+ * head[1] serials are the roster, and rows[2k], rows[2k + 1] the places that the record of k mourns, in the same way. Bits for places
+ * off the roster, and rows of places that are not back, are never looked at. A plain value: copies are recoveries of their own.
+ */
+typedef struct gm_recovery {
+    uint64_t head[4];
+    uint32_t serials[128];
+    uint64_t rows[256];
+} gm_recovery;
+
+/* A day of stops. As a recovery, but head[2] and head[3] are the places that have stopped, and every row counts: whom each has heard. */
+typedef struct gm_day {
+    uint64_t head[4];
+    uint32_t serials[128];
+    uint64_t rows[256];
+} gm_day;
+
+/* What a writer gives: GM_DONE and the position behind the record, or a refusal and 0. */
+typedef struct gm_end {
+    uint64_t refusal;
+    uint64_t next;
+} gm_end;
+
+/* A record that was read: its kind, the place of its own serial, the position where its roster's serials start and how many they
+ * are, the mourned places as in a row, and the position behind the record. */
+typedef struct gm_record {
+    uint64_t kind;
+    uint64_t own;
+    uint64_t roster;
+    uint64_t count;
+    uint64_t mourned[2];
+    uint64_t next;
+} gm_record;
+
+/* ---- the library: a recovery by its parts ---- */
+
+/* Opens a recovery with nobody back: GM_DONE, or 2, 3, then 4 for a zero anywhere, then 5 for a repeat anywhere. */
+uint8_t gm_open(uint8_t kind, const uint32_t *list, size_t length, uint64_t head[4], uint32_t serials[128], uint64_t rows[256]);
+
+/* Offers a lone record: GM_DONE for taken, GM_REPEATED, or 1 to 11 in this order. Only a record that is taken changes anything. */
+uint8_t gm_offer(uint64_t head[4], const uint32_t serials[128], uint64_t rows[256], const uint8_t *bytes, size_t length);
+
+/* The answer for a place: GM_LAST, GM_NOT_LAST, GM_OPEN, or 12. */
+uint8_t gm_ask(const uint64_t head[4], const uint64_t rows[256], size_t place);
+
+/* The place of a serial, or GM_NOT_FOUND. */
+size_t gm_find(const uint64_t head[4], const uint32_t serials[128], uint32_t serial);
+
+/* The places that no returned record names, and those of them that are not back. A set as in a row; no bit is off the roster. */
+void gm_unmourned(const uint64_t head[4], const uint64_t rows[256], uint64_t out[2]);
+void gm_unmourned_absent(const uint64_t head[4], const uint64_t rows[256], uint64_t out[2]);
+
+/* How many places no returned record names. */
+size_t gm_unmourned_count(const uint64_t head[4], const uint64_t rows[256]);
+
+/* 1 if no place is open, else 0. */
+uint8_t gm_settled(const uint64_t head[4], const uint64_t rows[256]);
+
+/*
+ * Two histories that fit, the place last in the first and not in the second: GM_DONE and both are laid down, 12, GM_DECIDED, or 13
+ * where a buffer is shorter than 16 bytes a member (GM_DECIDED comes before 13). A history is the rows in roster order, 16 bytes
+ * each: place k is bit k % 8 of byte k / 8. Bytes behind the rows stay as they are.
+ */
+uint8_t gm_show(const uint64_t head[4], const uint64_t rows[256], size_t place, uint8_t *first, size_t first_length, uint8_t *second,
+                size_t second_length);
+
+/* Whether a history agrees with the records: GM_FITS, GM_FITS_NOT, 13, then 15. Bytes behind the rows are not looked at. */
+uint8_t gm_check(const uint64_t head[4], const uint64_t rows[256], const uint8_t *history, size_t length);
+
+/* Writes the record of a returned place into `out` from position `at` on: its end, or 12, 14, 13. Other bytes stay as they are. */
+gm_end gm_write(const uint64_t head[4], const uint32_t serials[128], const uint64_t rows[256], size_t place, uint8_t *out, size_t length,
+                size_t at);
+
+/* ---- the library: records ---- */
+
+/* Reads the record that starts at a position, whatever follows it: GM_DONE and the seven words of gm_record in `out`, or 1 to 7. */
+uint8_t gm_read(const uint8_t *bytes, size_t length, size_t at, uint64_t out[7]);
+
+/* The same for bytes that are one record and no more: also 8. */
+uint8_t gm_read_lone(const uint8_t *bytes, size_t length, uint64_t out[7]);
+
+/* 1 if the `count` serials that start at a position are all there and are this list, else 0. */
+uint8_t gm_roster_is(const uint8_t *bytes, size_t length, size_t at, size_t count, const uint32_t *list, size_t list_length);
+
+/* Copies the `count` serials that start at a position to the front of `list`: 1, or 0 where they are not all there or above 128. */
+uint8_t gm_copy_roster(const uint8_t *bytes, size_t length, size_t at, size_t count, uint32_t list[128]);
+
+/* Writes a record from its parts: its end, or 2, 12 (own place), 3 (above 128), 13. Zeros and repeats on the roster are not looked
+ * for, and bits of `mourned` off the roster not looked at. */
+gm_end gm_write_record(uint8_t kind, size_t own, const uint32_t *roster, size_t roster_length, const uint64_t mourned[2], uint8_t *out,
+                       size_t length, size_t at);
+
+/* ---- the library: a day by its parts ---- */
+
+/* Opens a day on which all run: as gm_open. */
+uint8_t gm_day_open(uint8_t kind, const uint32_t *list, size_t length, uint64_t head[4], uint32_t serials[128], uint64_t rows[256]);
+
+/* One event: GM_DONE, 12, or 14. GM_STOP needs `place` running and does not look at `other`; GM_HEAR needs `place` running and
+ * `other` stopped. Any other kind is 14, whatever the places. */
+uint8_t gm_day_event(uint64_t head[4], const uint32_t serials[128], uint64_t rows[256], uint8_t kind, size_t place, size_t other);
+
+/* Writes the record of a place that has stopped: as gm_write. */
+gm_end gm_day_write(const uint64_t head[4], const uint32_t serials[128], const uint64_t rows[256], size_t place, uint8_t *out,
+                    size_t length, size_t at);
+
+/* ---- a recovery behind one pointer ---- */
+
+static inline uint8_t gm_recovery_open(gm_recovery *r, uint8_t kind, const uint32_t *list, size_t length)
+{
+    return gm_open(kind, list, length, r->head, r->serials, r->rows);
+}
+
+static inline uint8_t gm_recovery_offer(gm_recovery *r, const uint8_t *bytes, size_t length)
+{
+    return gm_offer(r->head, r->serials, r->rows, bytes, length);
+}
+
+static inline uint8_t gm_recovery_ask(const gm_recovery *r, size_t place)
+{
+    return gm_ask(r->head, r->rows, place);
+}
+
+static inline size_t gm_recovery_find(const gm_recovery *r, uint32_t serial)
+{
+    return gm_find(r->head, r->serials, serial);
+}
+
+static inline void gm_recovery_unmourned(const gm_recovery *r, uint64_t out[2])
+{
+    gm_unmourned(r->head, r->rows, out);
+}
+
+static inline void gm_recovery_unmourned_absent(const gm_recovery *r, uint64_t out[2])
+{
+    gm_unmourned_absent(r->head, r->rows, out);
+}
+
+static inline size_t gm_recovery_unmourned_count(const gm_recovery *r)
+{
+    return gm_unmourned_count(r->head, r->rows);
+}
+
+static inline uint8_t gm_recovery_settled(const gm_recovery *r)
+{
+    return gm_settled(r->head, r->rows);
+}
+
+static inline uint8_t gm_recovery_show(const gm_recovery *r, size_t place, uint8_t *first, size_t first_length, uint8_t *second,
+                                       size_t second_length)
+{
+    return gm_show(r->head, r->rows, place, first, first_length, second, second_length);
+}
+
+static inline uint8_t gm_recovery_check(const gm_recovery *r, const uint8_t *history, size_t length)
+{
+    return gm_check(r->head, r->rows, history, length);
+}
+
+static inline gm_end gm_recovery_write(const gm_recovery *r, size_t place, uint8_t *out, size_t length, size_t at)
+{
+    return gm_write(r->head, r->serials, r->rows, place, out, length, at);
+}
+
+/* ---- records as structs: where a call is refused, `out` stays as it is ---- */
+
+static inline uint8_t gm_record_take(uint8_t answer, const uint64_t words[7], gm_record *out)
+{
+    if (answer == GM_DONE) {
+        out->kind = words[0];
+        out->own = words[1];
+        out->roster = words[2];
+        out->count = words[3];
+        out->mourned[0] = words[4];
+        out->mourned[1] = words[5];
+        out->next = words[6];
+    }
+    return answer;
+}
+
+static inline uint8_t gm_record_read(const uint8_t *bytes, size_t length, size_t at, gm_record *out)
+{
+    uint64_t words[7] = { 0 };
+    uint8_t answer = gm_read(bytes, length, at, words);
+    return gm_record_take(answer, words, out);
+}
+
+static inline uint8_t gm_record_read_lone(const uint8_t *bytes, size_t length, gm_record *out)
+{
+    uint64_t words[7] = { 0 };
+    uint8_t answer = gm_read_lone(bytes, length, words);
+    return gm_record_take(answer, words, out);
+}
+
+/* Whether the roster of a record that was read from these bytes is this list: 1 or 0. */
+static inline uint8_t gm_record_roster_is(const gm_record *x, const uint8_t *bytes, size_t length, const uint32_t *list, size_t list_length)
+{
+    return gm_roster_is(bytes, length, (size_t)x->roster, (size_t)x->count, list, list_length);
+}
+
+/* Copies that roster to the front of a list of 128: 1 or 0. */
+static inline uint8_t gm_record_copy_roster(const gm_record *x, const uint8_t *bytes, size_t length, uint32_t list[128])
+{
+    return gm_copy_roster(bytes, length, (size_t)x->roster, (size_t)x->count, list);
+}
+
+/* ---- a day behind one pointer ---- */
+
+static inline uint8_t gm_day_start(gm_day *d, uint8_t kind, const uint32_t *list, size_t length)
+{
+    return gm_day_open(kind, list, length, d->head, d->serials, d->rows);
+}
+
+static inline uint8_t gm_day_happen(gm_day *d, uint8_t kind, size_t place, size_t other)
+{
+    return gm_day_event(d->head, d->serials, d->rows, kind, place, other);
+}
+
+static inline uint8_t gm_day_stop(gm_day *d, size_t place)
+{
+    return gm_day_happen(d, GM_STOP, place, place);
+}
+
+static inline uint8_t gm_day_hear(gm_day *d, size_t place, size_t other)
+{
+    return gm_day_happen(d, GM_HEAR, place, other);
+}
+
+static inline gm_end gm_day_record(const gm_day *d, size_t place, uint8_t *out, size_t length, size_t at)
+{
+    return gm_day_write(d->head, d->serials, d->rows, place, out, length, at);
+}
+
+#ifdef __cplusplus
+}
+#endif
+
+#endif
