@@ -1,5 +1,5 @@
 // What a caller is refused, and in which order. The recovery is P7's: three places, 0 and 1 back with empty sets, so that 2 is last
-// and 0 and 1 are open.
+// and 0 and 1 are open. Its rows are 48 bytes, and each of its records 19.
 use crate::laid;
 use crate::outcomes;
 use crate::outcomes::DECIDED;
@@ -17,29 +17,29 @@ use recovery::Recovery;
 
 const LARGEST: usize = 18446744073709551615;
 
-fn ask(t: Tally, r: Recovery, name: &[u8], place: usize, expected: u64) -> Tally {
+fn ask(t: Tally, r: Recovery, place: usize, expected: u64) -> Tally {
     let got = recovery::ask(r, Place(place));
-    tallies::named(t, name, expected, outcomes::asked(got))
+    tallies::called(
+        t,
+        b"ask of P7",
+        place as u64,
+        0,
+        0,
+        expected,
+        outcomes::asked(got),
+    )
 }
 
 fn asks(t: Tally, r: Recovery) -> Tally {
-    let t = ask(t, r, b"asking for place 3 of 3", 3, 12);
-    let t = ask(t, r, b"asking for place 64 of 3", 64, 12);
-    let t = ask(t, r, b"asking for place 127 of 3", 127, 12);
-    let t = ask(t, r, b"asking for place 128 of 3", 128, 12);
-    ask(t, r, b"asking for the largest place", LARGEST, 12)
+    let t = ask(t, r, 3, 12);
+    let t = ask(t, r, 64, 12);
+    let t = ask(t, r, 127, 12);
+    let t = ask(t, r, 128, 12);
+    ask(t, r, LARGEST, 12)
 }
 
-// Shows a place with lent buffers of these lengths; nothing is touched unless it is shown.
-fn show(
-    tally: Tally,
-    r: Recovery,
-    name: &[u8],
-    place: usize,
-    one: usize,
-    two: usize,
-    expected: u64,
-) -> Tally {
+// Shows a place with two lent buffers of these lengths; neither is touched unless it is shown.
+fn show(tally: Tally, r: Recovery, place: usize, one: usize, two: usize, expected: u64) -> Tally {
     let mut first = [0xaau8; 80];
     let mut second = [0xaau8; 80];
     let got = recovery::show(
@@ -49,76 +49,88 @@ fn show(
         parts::lent(&mut second, two),
     );
     let came = outcomes::showing(got);
-    let t = tallies::named(tally, name, expected, came);
+    let p = place as u64;
+    let a = one as u64;
+    let b = two as u64;
+    let t = tallies::called(
+        tally,
+        b"show of P7, place and lengths",
+        p,
+        a,
+        b,
+        expected,
+        came,
+    );
     if came == SHOWN {
         return t;
     }
-    let t = tallies::named(t, name, 0, laid::read(0, &first) as u64);
-    tallies::named(t, name, 0, laid::read(0, &second) as u64)
-}
-
-fn shows(t: Tally, r: Recovery) -> Tally {
-    let t = show(t, r, b"showing place 3 of 3, no bytes", 3, 0, 0, 12);
-    let t = show(t, r, b"showing place 3 of 3", 3, 48, 48, 12);
-    let t = show(t, r, b"showing the largest place", LARGEST, 48, 48, 12);
-    let t = show(t, r, b"showing a decided place, no bytes", 2, 0, 0, DECIDED);
-    let t = show(t, r, b"showing a decided place", 2, 48, 48, DECIDED);
-    let t = show(t, r, b"showing, no bytes", 0, 0, 0, 13);
-    let t = show(t, r, b"showing, the first short", 0, 47, 48, 13);
-    let t = show(t, r, b"showing, the second short", 0, 48, 47, 13);
-    let t = show(
+    let touched = laid::read(0, &first) | laid::read(0, &second);
+    tallies::called(
         t,
-        r,
-        b"showing, the first long and the second short",
+        b"buffers of show of P7, place and lengths",
+        p,
+        a,
+        b,
         1,
-        80,
-        47,
-        13,
-    );
-    let t = show(t, r, b"showing, just long enough", 0, 48, 48, SHOWN);
-    show(t, r, b"showing, longer", 1, 49, 80, SHOWN)
+        outcomes::truth(touched == 0),
+    )
 }
 
-// Checks a history of the first bytes of a buffer of zeros with one other byte.
-fn check(
-    t: Tally,
-    r: Recovery,
-    name: &[u8],
-    length: usize,
-    at: usize,
-    x: u8,
-    expected: u64,
-) -> Tally {
+// 12, decided, 13: in this order.
+fn shows(t: Tally, r: Recovery) -> Tally {
+    let t = show(t, r, 3, 0, 0, 12);
+    let t = show(t, r, 3, 48, 48, 12);
+    let t = show(t, r, LARGEST, 48, 48, 12);
+    let t = show(t, r, 2, 0, 0, DECIDED);
+    let t = show(t, r, 2, 48, 48, DECIDED);
+    let t = show(t, r, 0, 0, 0, 13);
+    let t = show(t, r, 0, 47, 48, 13);
+    let t = show(t, r, 0, 48, 47, 13);
+    let t = show(t, r, 1, 80, 47, 13);
+    let t = show(t, r, 0, 48, 48, SHOWN);
+    show(t, r, 1, 49, 80, SHOWN)
+}
+
+// Checks the first bytes of a buffer of zeros with one other byte.
+fn check(t: Tally, r: Recovery, length: usize, at: usize, x: u8, expected: u64) -> Tally {
     let mut bytes = [0u8; 80];
     if at < 80 {
         bytes[at] = x;
     }
     let got = recovery::check(r, parts::of_buffer(&bytes, length));
-    tallies::named(t, name, expected, outcomes::checked(got))
+    tallies::called(
+        t,
+        b"check of P7, length, position and byte",
+        length as u64,
+        at as u64,
+        x as u64,
+        expected,
+        outcomes::checked(got),
+    )
 }
 
+// 13, 15, then the answer; what stands past the rows is not looked at.
 fn checks(t: Tally, r: Recovery) -> Tally {
-    let t = check(t, r, b"checking empty rows", 48, 0, 0, FITS);
-    let t = check(t, r, b"checking, 2 heard 0", 48, 32, 1, FITS);
-    let t = check(t, r, b"checking, 0 heard 1", 48, 0, 2, FITS_NOT);
-    let t = check(t, r, b"checking, 2 heard itself", 48, 32, 4, FITS_NOT);
-    let t = check(t, r, b"checking no bytes", 0, 0, 0, 13);
-    let t = check(t, r, b"checking one byte less", 47, 0, 0, 13);
-    let t = check(t, r, b"checking one byte less, place 3", 47, 0, 8, 13);
-    let t = check(t, r, b"checking, 2 heard 3", 48, 32, 8, 15);
-    let t = check(t, r, b"checking, 0 heard 3", 48, 0, 8, 15);
-    let t = check(t, r, b"checking, 0 heard 1 and 3", 48, 0, 10, 15);
-    let t = check(t, r, b"checking, 0 heard 64", 48, 8, 1, 15);
-    let t = check(t, r, b"checking, 2 heard 127", 48, 47, 128, 15);
-    let t = check(t, r, b"checking, a byte past the rows", 49, 48, 255, FITS);
-    check(t, r, b"checking, bytes past the rows", 80, 79, 255, FITS)
+    let t = check(t, r, 48, 0, 0, FITS);
+    let t = check(t, r, 48, 32, 1, FITS);
+    let t = check(t, r, 48, 0, 2, FITS_NOT);
+    let t = check(t, r, 48, 32, 4, FITS_NOT);
+    let t = check(t, r, 0, 0, 0, 13);
+    let t = check(t, r, 47, 0, 0, 13);
+    let t = check(t, r, 47, 0, 8, 13);
+    let t = check(t, r, 48, 32, 8, 15);
+    let t = check(t, r, 48, 0, 8, 15);
+    let t = check(t, r, 48, 0, 10, 15);
+    let t = check(t, r, 48, 8, 1, 15);
+    let t = check(t, r, 48, 47, 128, 15);
+    let t = check(t, r, 49, 48, 255, FITS);
+    check(t, r, 80, 79, 255, FITS)
 }
 
-// Writes into the first bytes of a buffer; nothing is touched unless it is written.
+// Writes into the first bytes of a buffer, which is touched only where the record goes.
 fn write(
     tally: Tally,
     r: Recovery,
-    name: &[u8],
     place: usize,
     length: usize,
     at: usize,
@@ -126,72 +138,62 @@ fn write(
 ) -> Tally {
     let mut made = [0u8; 1100];
     let mut out = [0xaau8; 80];
-    let serials = stored::serials();
     let got = recovery::write(r, Place(place), parts::lent(&mut out, length), at);
     let came = outcomes::writing(got);
-    let t = tallies::named(tally, name, expected, came);
-    if came < 16 {
-        return tallies::named(t, name, 0, laid::read(0, &out) as u64);
-    }
+    let p = place as u64;
+    let n = length as u64;
+    let a = at as u64;
+    let t = tallies::called(
+        tally,
+        b"write of P7, place, length and position",
+        p,
+        n,
+        a,
+        expected,
+        came,
+    );
+    let serials = stored::serials();
     let all = stored::record(2, place, parts::of_six(&serials, 3), 0, &mut made);
-    let same = laid::has_only(&out, at, parts::of_record(&made, all));
-    tallies::named(t, name, 1, outcomes::truth(same))
+    let same = if came < 16 {
+        laid::read(0, &out) == 0
+    } else {
+        laid::has_only(&out, at, parts::of_record(&made, all))
+    };
+    let truth = outcomes::truth(same);
+    tallies::called(
+        t,
+        b"bytes of write of P7, place, length and position",
+        p,
+        n,
+        a,
+        1,
+        truth,
+    )
 }
 
+// 12, 14, 13: in this order; no position wraps.
 fn writes(t: Tally, r: Recovery) -> Tally {
-    let t = write(t, r, b"writing place 3 of 3, past the end", 3, 0, 1, 12);
-    let t = write(
-        t,
-        r,
-        b"writing the largest place at the largest position",
-        LARGEST,
-        40,
-        LARGEST,
-        12,
-    );
-    let t = write(t, r, b"writing one that is not back", 2, 40, 0, 14);
-    let t = write(t, r, b"writing one that is not back, no bytes", 2, 0, 0, 14);
-    let t = write(
-        t,
-        r,
-        b"writing one that is not back, at the largest position",
-        2,
-        40,
-        LARGEST,
-        14,
-    );
-    let t = write(t, r, b"writing, no bytes", 0, 0, 0, 13);
-    let t = write(t, r, b"writing, one byte less", 0, 18, 0, 13);
-    let t = write(
-        t,
-        r,
-        b"writing, one byte less behind a position",
-        0,
-        40,
-        22,
-        13,
-    );
-    let t = write(t, r, b"writing at the end", 0, 40, 40, 13);
-    let t = write(t, r, b"writing past the end", 0, 40, 41, 13);
-    let t = write(t, r, b"writing at the largest position", 0, 40, LARGEST, 13);
-    let t = write(
-        t,
-        r,
-        b"writing near the largest position",
-        1,
-        40,
-        LARGEST - 18,
-        13,
-    );
-    let t = write(t, r, b"writing, just long enough", 0, 19, 0, 19);
-    let t = write(t, r, b"writing behind a position", 1, 40, 21, 40);
-    write(t, r, b"writing, longer", 1, 80, 1, 20)
+    let t = write(t, r, 3, 0, 1, 12);
+    let t = write(t, r, LARGEST, 40, LARGEST, 12);
+    let t = write(t, r, 2, 40, 0, 14);
+    let t = write(t, r, 2, 0, 0, 14);
+    let t = write(t, r, 2, 40, LARGEST, 14);
+    let t = write(t, r, 0, 0, 0, 13);
+    let t = write(t, r, 0, 18, 0, 13);
+    let t = write(t, r, 0, 40, 22, 13);
+    let t = write(t, r, 0, 40, 40, 13);
+    let t = write(t, r, 0, 40, 41, 13);
+    let t = write(t, r, 0, 40, LARGEST, 13);
+    let t = write(t, r, 1, 40, LARGEST - 18, 13);
+    let t = write(t, r, 0, 19, 0, 19);
+    let t = write(t, r, 1, 40, 21, 40);
+    write(t, r, 1, 80, 1, 20)
 }
 
 pub fn cases(t: Tally) -> Tally {
-    let g = runs::opened(t, b"P7 opens", 2, 3);
-    let g = runs::offer(g, b"P7, 0 mourns none", 0, 0, TAKEN);
-    let g = runs::offer(g, b"P7, 1 mourns none", 1, 0, TAKEN);
+    let g = runs::opened(t, 7, 2, 3);
+    let g = runs::offer(g, 0, 0, TAKEN);
+    let g = runs::offer(g, 1, 0, TAKEN);
     let r = g.recovery;
     let t = g.tally;
     let t = asks(t, r);

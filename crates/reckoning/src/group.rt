@@ -1,5 +1,5 @@
-// Document 01's table of cases, and what a group refuses: 9, then repeated or 10, then 11. Places are numbers from 0, sets the sum of
-// their bits.
+// Document 01's table of cases, P1 to P12, as cases 1 to 12, and what a group refuses: 9, then repeated or 10, then 11. Places are numbers
+// from 0, sets the sum of their bits.
 use crate::outcomes::REPEATED;
 use crate::outcomes::TAKEN;
 use crate::parts;
@@ -9,205 +9,164 @@ use crate::stored;
 use crate::tallies::Tally;
 
 fn p1_p2(t: Tally, kind: u8) -> Tally {
-    let one = runs::opened(t, b"P1 opens", kind, 1);
-    let one = runs::answers(one, b"P1", b"l", true);
+    let one = runs::opened(t, 1, kind, 1);
+    let one = runs::answers(one, b"l", true);
     let t = one.tally;
-    let two = runs::opened(t, b"P2 opens", kind, 2);
-    let two = runs::answers(two, b"P2", b"oo", false);
+    let two = runs::opened(t, 2, kind, 2);
+    let two = runs::answers(two, b"oo", false);
     two.tally
 }
 
+// P3, and P6 after it.
 fn p3_p6(t: Tally) -> Tally {
-    let g = runs::opened(t, b"P3 opens", 2, 4);
-    let g = runs::offer(g, b"P3, 0 mourns none", 0, 0, TAKEN);
-    let g = runs::offer(g, b"P3, 3 mourns 1 and 2", 3, 6, TAKEN);
-    let g = runs::answers(g, b"P3", b"onnl", false);
-    let g = runs::offer(g, b"P6, 1 mourns 0", 1, 1, TAKEN);
-    let g = runs::answers(g, b"P6", b"nnnl", true);
+    let g = runs::opened(t, 3, 2, 4);
+    let g = runs::offer(g, 0, 0, TAKEN);
+    let g = runs::offer(g, 3, 6, TAKEN);
+    let g = runs::answers(g, b"onnl", false);
+    let g = runs::offer(g, 1, 1, TAKEN);
+    let g = runs::answers(g, b"nnnl", true);
     g.tally
 }
 
+// P4, and P5 after it.
 fn p4_p5(t: Tally) -> Tally {
-    let g = runs::opened(t, b"P4 opens", 1, 4);
-    let g = runs::offer(g, b"P4, 0 mourns none", 0, 0, TAKEN);
-    let g = runs::offer(g, b"P4, 3 mourns 1 and 2", 3, 6, TAKEN);
-    let g = runs::answers(g, b"P4", b"lnnl", true);
-    let g = runs::offer(g, b"P5, 1 mourns 0", 1, 1, 11);
-    let g = runs::answers(g, b"P5", b"lnnl", true);
+    let g = runs::opened(t, 4, 1, 4);
+    let g = runs::offer(g, 0, 0, TAKEN);
+    let g = runs::offer(g, 3, 6, TAKEN);
+    let g = runs::answers(g, b"lnnl", true);
+    let g = runs::offer(g, 1, 1, 11);
+    let g = runs::answers(g, b"lnnl", true);
     g.tally
 }
 
+// P7, and then all back with empty sets.
 fn p7(t: Tally, kind: u8) -> Tally {
-    let g = runs::opened(t, b"P7 opens", kind, 3);
-    let g = runs::offer(g, b"P7, 0 mourns none", 0, 0, TAKEN);
-    let g = runs::offer(g, b"P7, 1 mourns none", 1, 0, TAKEN);
-    let g = runs::answers(g, b"P7", b"ool", false);
-    let g = runs::offer(g, b"after P7, 2 mourns none", 2, 0, TAKEN);
-    let g = runs::answers(g, b"after P7", b"lll", true);
+    let g = runs::opened(t, 7, kind, 3);
+    let g = runs::offer(g, 0, 0, TAKEN);
+    let g = runs::offer(g, 1, 0, TAKEN);
+    let g = runs::answers(g, b"ool", false);
+    let g = runs::offer(g, 2, 0, TAKEN);
+    let g = runs::answers(g, b"lll", true);
     g.tally
 }
 
-fn p8_p9(t: Tally) -> Tally {
-    let g = runs::opened(t, b"P8 opens", 1, 6);
-    let g = runs::offer(g, b"P8, 0 mourns 3 and 5", 0, 40, TAKEN);
-    let g = runs::offer(g, b"P8, 1 mourns 2 and 4", 1, 20, TAKEN);
-    let g = runs::answers(g, b"P8", b"llnnnn", true);
-    let t = g.tally;
-    let g = runs::opened(t, b"P9 opens", 2, 6);
-    let g = runs::offer(g, b"P9, 0 mourns 3 and 5", 0, 40, TAKEN);
-    let g = runs::offer(g, b"P9, 1 mourns 2 and 4", 1, 20, TAKEN);
-    let g = runs::answers(g, b"P9", b"oonnnn", false);
+// P8 in the full kind, P9 in the short one.
+fn p8_p9(t: Tally, case: u64, kind: u8, letters: &[u8], settled: bool) -> Tally {
+    let g = runs::opened(t, case, kind, 6);
+    let g = runs::offer(g, 0, 40, TAKEN);
+    let g = runs::offer(g, 1, 20, TAKEN);
+    let g = runs::answers(g, letters, settled);
     g.tally
 }
 
 fn p10_p11(t: Tally) -> Tally {
-    let g = runs::opened(t, b"P10 opens", 2, 2);
-    let g = runs::offer(g, b"P10, 0 mourns 1", 0, 2, TAKEN);
-    let g = runs::offer(g, b"P10, 1 mourns 0", 1, 1, 11);
+    let g = runs::opened(t, 10, 2, 2);
+    let g = runs::offer(g, 0, 2, TAKEN);
+    let g = runs::offer(g, 1, 1, 11);
     let t = g.tally;
-    let g = runs::opened(t, b"P11 opens", 1, 3);
-    let g = runs::offer(g, b"P11, 0 mourns 1", 0, 2, TAKEN);
-    let g = runs::offer(g, b"P11, 1 mourns 2", 1, 4, 11);
+    let g = runs::opened(t, 11, 1, 3);
+    let g = runs::offer(g, 0, 2, TAKEN);
+    let g = runs::offer(g, 1, 4, 11);
     let t = g.tally;
-    let g = runs::opened(t, b"P11 opens again", 1, 3);
-    let g = runs::offer(g, b"P11, 0 mourns 1 and 2", 0, 6, TAKEN);
-    let g = runs::offer(g, b"P11, 1 mourns 2 then", 1, 4, TAKEN);
+    let g = runs::opened(t, 11, 1, 3);
+    let g = runs::offer(g, 0, 6, TAKEN);
+    let g = runs::offer(g, 1, 4, TAKEN);
     g.tally
 }
 
 fn p12(t: Tally, kind: u8) -> Tally {
-    let g = runs::opened(t, b"P12 opens", kind, 2);
-    let g = runs::offer(g, b"P12, 0 mourns 0", 0, 1, 11);
-    let g = runs::offer(g, b"P12, 1 mourns both", 1, 3, 11);
-    let g = runs::answers(g, b"P12", b"oo", false);
+    let g = runs::opened(t, 12, kind, 2);
+    let g = runs::offer(g, 0, 1, 11);
+    let g = runs::offer(g, 1, 3, 11);
+    let g = runs::answers(g, b"oo", false);
     g.tally
 }
 
-// A circle of three, and of six.
+// A circle of three and one of six, each refused at its last record.
 fn circles(t: Tally) -> Tally {
-    let g = runs::opened(t, b"a circle opens", 2, 6);
-    let g = runs::offer(g, b"0 mourns 1", 0, 2, TAKEN);
-    let g = runs::offer(g, b"1 mourns 2", 1, 4, TAKEN);
-    let g = runs::offer(g, b"2 mourns 0", 2, 1, 11);
-    let g = runs::offer(g, b"2 mourns 3", 2, 8, TAKEN);
-    let g = runs::offer(g, b"5 mourns 0", 5, 1, TAKEN);
-    let g = runs::offer(g, b"4 mourns 5", 4, 32, TAKEN);
-    let g = runs::offer(g, b"3 mourns 4", 3, 16, 11);
-    let g = runs::offer(g, b"3 mourns none", 3, 0, TAKEN);
-    let g = runs::answers(g, b"all of a chain back", b"nnnnln", true);
+    let g = runs::opened(t, 13, 2, 6);
+    let g = runs::offer(g, 0, 2, TAKEN);
+    let g = runs::offer(g, 1, 4, TAKEN);
+    let g = runs::offer(g, 2, 1, 11);
+    let g = runs::offer(g, 2, 8, TAKEN);
+    let g = runs::offer(g, 5, 1, TAKEN);
+    let g = runs::offer(g, 4, 32, TAKEN);
+    let g = runs::offer(g, 3, 16, 11);
+    let g = runs::offer(g, 3, 0, TAKEN);
+    let g = runs::answers(g, b"nnnnln", true);
     g.tally
 }
 
 // A group of three with one record taken: 0 mourns 1.
-fn led(t: Tally, kind: u8) -> Run {
-    let g = runs::opened(t, b"a group opens", kind, 3);
-    runs::offer(g, b"0 mourns 1", 0, 2, TAKEN)
+fn led(t: Tally, case: u64, kind: u8) -> Run {
+    let g = runs::opened(t, case, kind, 3);
+    runs::offer(g, 0, 2, TAKEN)
 }
 
-// 9 comes before repeated, 10 and 11.
+// 9 comes before repeated, 10 and 11: the other kind, another order, a longer roster and a shorter one, and another serial.
 fn other_groups(t: Tally, kind: u8, other: u8, letters: &[u8]) -> Tally {
     let serials = stored::serials();
+    let three = parts::of_six(&serials, 3);
+    let four = parts::of_six(&serials, 4);
+    let two = parts::of_six(&serials, 2);
     let turned = [131072u32, 65536, 196608];
     let strange = [65536u32, 131072, 196609];
-    let g = led(t, kind);
-    let g = runs::offer_as(
-        g,
-        b"repeated, the other kind",
-        other,
-        parts::of_six(&serials, 3),
-        0,
-        2,
-        9,
-    );
-    let g = runs::offer_as(
-        g,
-        b"10, the other kind",
-        other,
-        parts::of_six(&serials, 3),
-        0,
-        4,
-        9,
-    );
-    let g = runs::offer_as(
-        g,
-        b"11, the other kind",
-        other,
-        parts::of_six(&serials, 3),
-        1,
-        1,
-        9,
-    );
-    let g = runs::offer_as(g, b"repeated, another order", kind, &turned, 1, 1, 9);
-    let g = runs::offer_as(g, b"11, another order", kind, &turned, 2, 4, 9);
-    let g = runs::offer_as(
-        g,
-        b"repeated, a longer roster",
-        kind,
-        parts::of_six(&serials, 4),
-        0,
-        2,
-        9,
-    );
-    let g = runs::offer_as(
-        g,
-        b"10, a shorter roster",
-        kind,
-        parts::of_six(&serials, 2),
-        0,
-        0,
-        9,
-    );
-    let g = runs::offer_as(g, b"repeated, another serial", kind, &strange, 0, 2, 9);
-    let g = runs::answers(g, b"after 9", letters, false);
+    let g = led(t, 14, kind);
+    let g = runs::offer_as(g, other, three, 0, 2, 9);
+    let g = runs::offer_as(g, other, three, 0, 4, 9);
+    let g = runs::offer_as(g, other, three, 1, 1, 9);
+    let g = runs::offer_as(g, kind, &turned, 1, 1, 9);
+    let g = runs::offer_as(g, kind, &turned, 2, 4, 9);
+    let g = runs::offer_as(g, kind, four, 0, 2, 9);
+    let g = runs::offer_as(g, kind, two, 0, 0, 9);
+    let g = runs::offer_as(g, kind, &strange, 0, 2, 9);
+    let g = runs::answers(g, letters, false);
     g.tally
 }
 
-// A second record of one that is back is repeated or 10 and never 11.
+// A second record of one that is back is repeated or 10 and never 11; 11 leaves its place free for another record.
 fn seconds(t: Tally, kind: u8, letters: &[u8]) -> Tally {
-    let g = led(t, kind);
-    let g = runs::offer(g, b"the same again", 0, 2, REPEATED);
-    let g = runs::offer(g, b"another set", 0, 4, 10);
-    let g = runs::offer(g, b"a larger set", 0, 6, 10);
-    let g = runs::offer(g, b"no set", 0, 0, 10);
-    let g = runs::offer(g, b"a set with itself", 0, 1, 10);
-    let g = runs::offer(g, b"1 mourns 0", 1, 1, 11);
-    let g = runs::offer(g, b"2 mourns itself", 2, 4, 11);
-    let g = runs::offer(g, b"1 mourns all", 1, 7, 11);
-    let g = runs::answers(g, b"after refusals", letters, false);
-    let g = runs::offer(g, b"1 mourns none", 1, 0, TAKEN);
-    let g = runs::offer(g, b"1 mourns 0 now", 1, 1, 10);
-    let g = runs::offer(g, b"the same once more", 0, 2, REPEATED);
-    let g = runs::answers(g, b"after refusals, two back", b"onl", false);
+    let g = led(t, 15, kind);
+    let g = runs::offer(g, 0, 2, REPEATED);
+    let g = runs::offer(g, 0, 4, 10);
+    let g = runs::offer(g, 0, 6, 10);
+    let g = runs::offer(g, 0, 0, 10);
+    let g = runs::offer(g, 0, 1, 10);
+    let g = runs::offer(g, 1, 1, 11);
+    let g = runs::offer(g, 2, 4, 11);
+    let g = runs::offer(g, 1, 7, 11);
+    let g = runs::answers(g, letters, false);
+    let g = runs::offer(g, 1, 0, TAKEN);
+    let g = runs::offer(g, 1, 1, 10);
+    let g = runs::offer(g, 0, 2, REPEATED);
+    let g = runs::answers(g, b"onl", false);
     g.tally
 }
 
-// Faults of a record change nothing.
+// Faults of a record come before 9 and change nothing; each is offered as its own number.
 fn faults(t: Tally, kind: u8, letters: &[u8]) -> Tally {
-    let g = led(t, kind);
-    let g = runs::send(g, b"no bytes", b"", 1);
-    let g = runs::send(g, b"kind 0", b"\x00", 2);
-    let g = runs::send(g, b"kind 3", b"\x03\x00\x01\x00\x00", 2);
-    let g = runs::send(g, b"no roster count", b"\x02\x00\x01\x00\x00", 1);
-    let g = runs::send(g, b"own serial 0", b"\x02\x00\x00\x00\x00\x00", 4);
+    let g = led(t, 16, kind);
+    let g = runs::send(g, b"", 1, 0, 1);
+    let g = runs::send(g, b"\x02\x00\x01\x00\x00", 1, 1, 1);
+    let g = runs::send(g, b"\x00", 2, 0, 2);
+    let g = runs::send(g, b"\x03\x00\x01\x00\x00", 2, 1, 2);
+    let g = runs::send(g, b"\x02\x00\x00\x00\x00\x00", 4, 0, 4);
     let g = runs::send(
         g,
-        b"a serial twice",
         b"\x02\x00\x00\x00\x07\x02\x00\x00\x00\x07\x00\x00\x00\x07",
         5,
+        0,
+        5,
     );
+    let g = runs::send(g, b"\x02\x00\x00\x00\x08\x01\x00\x00\x00\x07", 6, 0, 6);
     let g = runs::send(
         g,
-        b"own serial not on the roster",
-        b"\x02\x00\x00\x00\x08\x01\x00\x00\x00\x07",
-        6,
-    );
-    let g = runs::send(
-        g,
-        b"a byte follows",
         b"\x02\x00\x00\x00\x07\x01\x00\x00\x00\x07\x00\x00",
         8,
+        0,
+        8,
     );
-    let g = runs::answers(g, b"after faults", letters, false);
+    let g = runs::answers(g, letters, false);
     g.tally
 }
 
@@ -224,7 +183,8 @@ pub fn cases(t: Tally) -> Tally {
     let t = p4_p5(t);
     let t = p7(t, 1);
     let t = p7(t, 2);
-    let t = p8_p9(t);
+    let t = p8_p9(t, 8, 1, b"llnnnn", true);
+    let t = p8_p9(t, 9, 2, b"oonnnn", false);
     let t = p10_p11(t);
     let t = p12(t, 1);
     let t = p12(t, 2);

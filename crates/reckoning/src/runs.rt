@@ -1,6 +1,7 @@
-// A recovery led through a case that has a name: each outcome is held to the one that document 01 gives.
+// A recovery led through a numbered case: each outcome is held to the one that document 01 gives.
 use crate::outcomes;
 use crate::parts;
+use crate::say;
 use crate::stored;
 use crate::tallies;
 use crate::tallies::Tally;
@@ -8,20 +9,63 @@ use places::Place;
 use recovery::Recovery;
 
 pub struct Run {
+    pub case: u64,
     pub kind: u8,
     pub n: usize,
     pub recovery: Recovery,
     pub tally: Tally,
 }
 
-// Opens with the first n of the small rosters' serials.
-pub fn opened(t: Tally, name: &[u8], kind: u8, n: usize) -> Run {
-    let serials = stored::serials();
-    let got = recovery::open(kind, parts::of_six(&serials, n));
+// One outcome of a call with two numbers that say which it is.
+fn held(g: Run, call: &[u8], a: u64, b: u64, expected: u64, came: u64) -> Tally {
+    let t = g.tally;
+    if tallies::is_first(t, expected, came) {
+        say::text(b"case ");
+        say::number(g.case);
+        say::text(b", kind ");
+        say::number(g.kind as u64);
+        say::text(b" of ");
+        say::number(g.n as u64);
+        say::text(b", ");
+        say::text(call);
+        say::text(b" ");
+        say::number(a);
+        say::text(b":");
+        say::number(b);
+        tallies::say_both(expected, came);
+    }
+    tallies::counted(t, expected, came)
+}
+
+// The run after an outcome.
+fn after(g: Run, tally: Tally) -> Run {
+    let recovery = g.recovery;
+    Run {
+        case: g.case,
+        kind: g.kind,
+        n: g.n,
+        recovery,
+        tally,
+    }
+}
+
+// Opens with a list of serials.
+pub fn opened_with(t: Tally, case: u64, kind: u8, list: &[u32]) -> Run {
+    let got = recovery::open(kind, list);
     let answer = got.answer;
     let recovery = got.recovery;
-    let tally = tallies::named(t, name, outcomes::OPENED, outcomes::opening(answer));
+    let n = list.len();
+    let tally = tallies::called(
+        t,
+        b"open, case, kind and length",
+        case,
+        kind as u64,
+        n as u64,
+        outcomes::OPENED,
+        outcomes::opening(answer),
+    );
     Run {
+        case,
         kind,
         n,
         recovery,
@@ -29,15 +73,21 @@ pub fn opened(t: Tally, name: &[u8], kind: u8, n: usize) -> Run {
     }
 }
 
-// Offers bytes.
-pub fn send(g: Run, name: &[u8], bytes: &[u8], expected: u64) -> Run {
+// Opens with the first n of the small rosters' serials.
+pub fn opened(t: Tally, case: u64, kind: u8, n: usize) -> Run {
+    let serials = stored::serials();
+    opened_with(t, case, kind, parts::of_six(&serials, n))
+}
+
+// Offers bytes; the two numbers say which.
+pub fn send(g: Run, bytes: &[u8], a: u64, b: u64, expected: u64) -> Run {
     let old = g.recovery;
-    let t = g.tally;
     let got = recovery::offer(old, bytes);
     let answer = got.answer;
     let recovery = got.recovery;
-    let tally = tallies::named(t, name, expected, outcomes::reply(answer));
+    let tally = held(g, b"offer", a, b, expected, outcomes::reply(answer));
     Run {
+        case: g.case,
         kind: g.kind,
         n: g.n,
         recovery,
@@ -48,7 +98,6 @@ pub fn send(g: Run, name: &[u8], bytes: &[u8], expected: u64) -> Run {
 // Offers the record of a place of some roster in some kind.
 pub fn offer_as(
     g: Run,
-    name: &[u8],
     kind: u8,
     roster: &[u32],
     place: usize,
@@ -57,23 +106,36 @@ pub fn offer_as(
 ) -> Run {
     let mut bytes = [0u8; 1100];
     let length = stored::record(kind, place, roster, mourned, &mut bytes);
-    send(g, name, parts::of_record(&bytes, length), expected)
+    send(
+        g,
+        parts::of_record(&bytes, length),
+        place as u64,
+        mourned as u64,
+        expected,
+    )
 }
 
-// Offers the record of a place that mourns a set, given as the sum of its bits.
-pub fn offer(g: Run, name: &[u8], place: usize, mourned: u32, expected: u64) -> Run {
+// Offers the record of a place that mourns a set.
+pub fn offer(g: Run, place: usize, mourned: u32, expected: u64) -> Run {
     let kind = g.kind;
     let serials = stored::serials();
     let n = g.n;
     offer_as(
         g,
-        name,
         kind,
         parts::of_six(&serials, n),
         place,
         mourned,
         expected,
     )
+}
+
+// Asks for a place.
+pub fn ask(g: Run, place: usize, expected: u64) -> Run {
+    let recovery = g.recovery;
+    let got = recovery::ask(recovery, Place(place));
+    let t = held(g, b"ask", place as u64, 0, expected, outcomes::asked(got));
+    after(g, t)
 }
 
 // The answer that a letter stands for.
@@ -90,29 +152,41 @@ fn answer(letters: &[u8], i: usize) -> u64 {
 }
 
 // Asks for every place: a letter stands for each answer, l, n or o.
-fn asks(r: Recovery, tally: Tally, name: &[u8], letters: &[u8], n: usize) -> Tally {
-    let mut t = tally;
+fn asks(run: Run, letters: &[u8]) -> Run {
+    let mut g = run;
     let mut i = 0;
-    while i < n {
-        let got = recovery::ask(r, Place(i));
-        let next = tallies::numbered(t, name, i as u64, answer(letters, i), outcomes::asked(got));
-        t = next;
+    while i < run.n {
+        let next = ask(g, i, answer(letters, i));
+        g = next;
         i += 1;
     }
-    t
+    g
 }
 
 // Every answer, and whether the whole is settled.
-pub fn answers(g: Run, name: &[u8], letters: &[u8], settled: bool) -> Run {
+pub fn answers(g: Run, letters: &[u8], settled: bool) -> Run {
     let recovery = g.recovery;
-    let t = g.tally;
     let got = recovery::settled(recovery);
-    let t = tallies::named(t, name, outcomes::truth(settled), outcomes::truth(got));
-    let tally = asks(recovery, t, name, letters, g.n);
-    Run {
-        kind: g.kind,
-        n: g.n,
-        recovery,
-        tally,
-    }
+    let t = held(
+        g,
+        b"settled",
+        0,
+        0,
+        outcomes::truth(settled),
+        outcomes::truth(got),
+    );
+    asks(after(g, t), letters)
+}
+
+// The unmourned places, in two words, and their count.
+pub fn unmourned(g: Run, low: u64, high: u64, count: u64) -> Run {
+    let recovery = g.recovery;
+    let set = recovery::unmourned(recovery);
+    let t = held(g, b"unmourned", 0, 63, low, set.low);
+    let g = after(g, t);
+    let t = held(g, b"unmourned", 64, 127, high, set.high);
+    let g = after(g, t);
+    let got = recovery::unmourned_count(recovery);
+    let t = held(g, b"count", 0, 0, count, got as u64);
+    after(g, t)
 }

@@ -46,21 +46,16 @@ pub fn say_both(expected: u64, came: u64) {
     say::text(b"\n");
 }
 
-// A case that has a name of its own.
-pub fn named(t: Tally, name: &[u8], expected: u64, came: u64) -> Tally {
+// A call with up to three numbers that say which it is.
+pub fn called(t: Tally, call: &[u8], a: u64, b: u64, c: u64, expected: u64, came: u64) -> Tally {
     if is_first(t, expected, came) {
-        say::text(name);
-        say_both(expected, came);
-    }
-    counted(t, expected, came)
-}
-
-// The same about a place.
-pub fn numbered(t: Tally, name: &[u8], about: u64, expected: u64, came: u64) -> Tally {
-    if is_first(t, expected, came) {
-        say::text(name);
-        say::text(b", place ");
-        say::number(about);
+        say::text(call);
+        say::text(b" ");
+        say::number(a);
+        say::text(b" ");
+        say::number(b);
+        say::text(b" ");
+        say::number(c);
         say_both(expected, came);
     }
     counted(t, expected, came)

@@ -6,10 +6,10 @@ use Rattle.reckoning.proofs.counts.finds.Statement.{statement}
 use Rattle.reckoning.proofs.counts.finds.Tie as tie
 
 abbrev Inv-loop : tie.InvT-loop
-Inv-loop r name list t₀ i₀ t i = i ≤ length list
+Inv-loop r case list t₀ i₀ t i = i ≤ length list
 
 abbrev μ-loop : tie.MeasureT-loop
-μ-loop r name list t₀ i₀ t i = length list - i
+μ-loop r case list t₀ i₀ t i = length list - i
 
 loop-holds : tie.Need-loop-holds Inv-loop μ-loop
 loop-holds c = search needs

@@ -5,25 +5,19 @@ use Rattle.reckoning.proofs.runs.asks.Statement.{statement}
 use Rattle.reckoning.proofs.runs.asks.Tie as tie
 
 abbrev Inv-loop : tie.InvT-loop
-Inv-loop r name letters n t₀ i₀ t i = Unit {0}
+Inv-loop run letters g₀ i₀ g i = Unit {0}
 
 abbrev μ-loop : tie.MeasureT-loop
-μ-loop r name letters n t₀ i₀ t i = n - i
+μ-loop run letters g₀ i₀ g i = run .n - i
 
 loop-holds : tie.Need-loop-holds Inv-loop μ-loop
 loop-holds c = search needs
 
-ask-requires : tie.Need-ask-requires Inv-loop μ-loop
-ask-requires c κs = search needs
-
 answer-requires : tie.Need-answer-requires Inv-loop μ-loop
 answer-requires c κs = search needs
 
-asked-requires : tie.Need-asked-requires Inv-loop μ-loop
-asked-requires c κs = search needs
-
-numbered-requires : tie.Need-numbered-requires Inv-loop μ-loop
-numbered-requires c κs = search needs
+ask-requires : tie.Need-ask-requires Inv-loop μ-loop
+ask-requires c κs = search needs
 
 add-i : tie.Need-add-i Inv-loop μ-loop
 add-i c = search needs
@@ -44,10 +38,8 @@ asks-spec =
     Inv-loop
     μ-loop
     loop-holds
-    ask-requires
     answer-requires
-    asked-requires
-    numbered-requires
+    ask-requires
     add-i
     loop-less
     loop-again
