@@ -1,0 +1,141 @@
+-- What each call on a recovery in the caller's memory gives: one law for each way in which the code returns. Assumes nothing.
+use mathlib.Core.Path.{_≡_, refl, sym, ap, _∙_}
+use mathlib.Core.Bool.{Bool, true, false, cond}
+use mathlib.Core.List.{List, [], _∷_}
+use Prim.Native.Nat.{ℕ, _*_, _≤_, _<_}
+use lib.ListN.{length, take, getD}
+use borrow.Author.Tests.{eq-eqb, ne-eqb}
+use Rattle.places.specs.Sets as sets
+use Rattle.places.specs.Sets.{Places}
+use Rattle.places.specs.PlaceSets.{has, Words, found}
+use Rattle.places.specs.declared.PlaceSet.{PlaceSet}
+use Rattle.places.specs.declared.Found.{Found}
+use Rattle.places.proofs.Laws.{packed-is, kept-has}
+use Rattle.histories.specs.declared.Kind.the-variants.{Full, Short}
+use Rattle.histories.specs.Histories.{Accepted}
+use Rattle.histories.specs.Rule as rule
+use Rattle.rosters.specs.Rosters.{placeOf}
+use Rattle.rows.specs.Rows.{historyIn}
+use Rattle.answers.specs.Views.{size, acceptedIn, answerOf}
+use Rattle.answers.specs.declared.Answer.{Answer}
+use Rattle.checks.specs.Checks.{offRoster}
+use Rattle.shows.specs.Shows.{Shown, shownIn}
+use Rattle.shows.specs.declared.Showing.{Showing}
+use Rattle.recovery.specs.declared.Recovery.{Recovery}
+use Rattle.recovery.specs.declared.Checked.the-variants as C
+use Rattle.recovery.specs.Contracts.{sizeOf, rosterOf, acceptedOf, asked, shown, checked, settledOf, unmournedOf, unmournedAbsentOf, unmournedCountOf, foundIn}
+use Rattle.recovery.proofs.Calls.{asked-off, checked-short, checked-off, checked-on}
+use Rattle.recovery.proofs.Gives.{askedOf, asked-on, absent-set, count-set}
+use Rattle.capi.specs.declared.Head.{Head}
+use Rattle.capi.specs.Boundary.{kindIn, setIn, recoveryIn, askedCode, showingCode, checkedCode, yesCode, foundCode, wordsOf}
+
+pub kind-short : (word : ℕ) → word ≡ 2 → Short ≡ kindIn (word ∷ [])
+unfolding kindIn
+kind-short word e = rw (eq-eqb word 2 e)
+
+pub kind-full : (word : ℕ) → (word ≡ 2 → ⊥) → Full ≡ kindIn (word ∷ [])
+unfolding kindIn
+kind-full word e = rw (ne-eqb word 2 e)
+
+-- what four words say
+abbrev pub Says : List ℕ → Head → Type 0
+Says head h = (h .kind ≡ kindIn head) × ((h .count ≡ getD head 1 0) × (h .set ≡ setIn head))
+
+-- the recovery of what they say is the one in memory
+abbrev pub partsOf : Head → List ℕ → List ℕ → Recovery
+partsOf h serials rows = record { kind = h .kind; count = h .count; serials = serials; returned = h .set; rows = rows }
+
+pub held : (head : List ℕ) (h : Head) → Says head h → (serials rows : List ℕ) → partsOf h serials rows ≡ recoveryIn head serials rows
+unfolding recoveryIn
+held head h (k, (n, s)) serials rows = λ i. record { kind = k i; count = n i; serials = serials; returned = s i; rows = rows }
+
+-- the words of a set are those of its places
+words-are : (s : PlaceSet) (S : Places) → Words s → has s ≡ S → s .low ∷ s .high ∷ [] ≡ wordsOf S
+unfolding wordsOf
+words-are s S w e =
+    ap (λ (s : PlaceSet). s .low ∷ s .high ∷ []) (packed-is s (has s) w (sym (kept-has s))) ∙ ap wordsOf e
+
+module _ (head : List ℕ) (h : Head) (says : Says head h) (serials rows : List ℕ) where
+  abbrev parts : Recovery
+  parts = partsOf h serials rows
+
+  abbrev accepted : Accepted
+  accepted = acceptedIn (h .count) (has (h .set)) rows
+
+  in-memory : parts ≡ recoveryIn head serials rows
+  in-memory = held head h says serials rows
+
+  -- ---- asking
+
+  pub ask-off : (p : ℕ) → size (h .count) ≤ p → 12 ≡ askedCode (asked (recoveryIn head serials rows) p)
+  unfolding sizeOf askedCode
+  ask-off p l = ap askedCode (sym (asked-off parts refl p l)) ∙ ap (λ (r : Recovery). askedCode (asked r p)) in-memory
+
+  pub ask-on : (p : ℕ) → p < size (h .count) → (a : Answer) → a ≡ answerOf (rule.answer (h .kind) (size (h .count)) accepted p)
+      → askedCode (askedOf a) ≡ askedCode (asked (recoveryIn head serials rows) p)
+  unfolding sizeOf acceptedOf
+  ask-on p l a e = ap askedCode (asked-on parts (size (h .count)) refl p l a e) ∙ ap (λ (r : Recovery). askedCode (asked r p)) in-memory
+
+  -- ---- the whole, the two sets and the number
+
+  pub settled-is : (t : Bool) → t ≡ rule.settled (h .kind) (size (h .count)) accepted → yesCode t ≡ yesCode (settledOf (recoveryIn head serials rows))
+  unfolding settledOf sizeOf acceptedOf
+  settled-is t e = ap yesCode e ∙ ap (λ (r : Recovery). yesCode (settledOf r)) in-memory
+
+  module _ (u : PlaceSet) (e : has u ≡ rule.unmourned (size (h .count)) accepted) where
+    all : has u ≡ unmournedOf parts
+    unfolding unmournedOf sizeOf acceptedOf
+    all = e
+
+    pub unmourned-is : Words u → u .low ∷ u .high ∷ [] ≡ wordsOf (unmournedOf (recoveryIn head serials rows))
+    unmourned-is w = words-are u (unmournedOf parts) w all ∙ ap (λ (r : Recovery). wordsOf (unmournedOf r)) in-memory
+
+    pub absent-is : (d : PlaceSet) → Words d → has d ≡ sets.difference (has u) (has (h .set)) → d .low ∷ d .high ∷ [] ≡ wordsOf (unmournedAbsentOf (recoveryIn head serials rows))
+    absent-is d w f = words-are d (unmournedAbsentOf parts) w (absent-set parts u d all f) ∙ ap (λ (r : Recovery). wordsOf (unmournedAbsentOf r)) in-memory
+
+    pub count-is : (c : ℕ) → c ≡ sets.count 128 (has u) → c ≡ unmournedCountOf (recoveryIn head serials rows)
+    count-is c f = count-set parts u c all f ∙ ap unmournedCountOf in-memory
+
+  -- ---- checking a lent history
+
+  module _ (lent : List ℕ) where
+    pub check-short : length lent < 16 * size (h .count) → 13 ≡ checkedCode (checked (recoveryIn head serials rows) lent)
+    unfolding sizeOf checkedCode
+    check-short l = ap checkedCode (sym (checked-short parts refl lent l)) ∙ ap (λ (r : Recovery). checkedCode (checked r lent)) in-memory
+
+    pub check-off : 16 * size (h .count) ≤ length lent → offRoster (size (h .count)) (historyIn (size (h .count)) lent) ≡ true → 15 ≡ checkedCode (checked (recoveryIn head serials rows) lent)
+    unfolding sizeOf checkedCode
+    check-off l o = ap checkedCode (sym (checked-off parts refl lent l o)) ∙ ap (λ (r : Recovery). checkedCode (checked r lent)) in-memory
+
+    pub check-on : 16 * size (h .count) ≤ length lent → offRoster (size (h .count)) (historyIn (size (h .count)) lent) ≡ false
+        → (t : Bool) → rule.fitsTest (h .kind) (size (h .count)) accepted (historyIn (size (h .count)) lent) ≡ t
+        → checkedCode (cond t C.Fits C.FitsNot) ≡ checkedCode (checked (recoveryIn head serials rows) lent)
+    unfolding sizeOf acceptedOf
+    check-on l o t f = ap checkedCode (sym (checked-on parts refl lent l o t f)) ∙ ap (λ (r : Recovery). checkedCode (checked r lent)) in-memory
+
+  -- ---- showing
+
+  shown-is : (p : ℕ) (a b : List ℕ) → shownIn (h .kind) (size (h .count)) accepted p a b ≡ shown (recoveryIn head serials rows) p a b
+  unfolding shown sizeOf acceptedOf
+  shown-is p a b = ap (λ (r : Recovery). shown r p a b) in-memory
+
+  -- ---- the place of a serial
+
+  pub found-is : (x m : ℕ) (f : Found) → m ≡ size (h .count) → f ≡ found (length (take m serials)) (placeOf x (take m serials))
+      → foundCode f ≡ foundCode (foundIn (recoveryIn head serials rows) x)
+  unfolding foundIn rosterOf sizeOf
+  found-is x m f l e =
+      ap foundCode (e ∙ ap (λ (m : ℕ). found (length (take m serials)) (placeOf x (take m serials))) l) ∙ ap (λ (r : Recovery). foundCode (foundIn r x)) in-memory
+
+-- the code and both buffers
+pub shows-are : (head : List ℕ) (h : Head) → Says head h → (rows : List ℕ) (p : ℕ) (a b : List ℕ) (x : Showing) (c : ℕ) (first second : List ℕ) → c ≡ showingCode x
+    → (x ≡ shownIn (h .kind) (size (h .count)) (acceptedIn (h .count) (has (h .set)) rows) p a b .answer)
+    × ((first ≡ shownIn (h .kind) (size (h .count)) (acceptedIn (h .count) (has (h .set)) rows) p a b .first)
+    × (second ≡ shownIn (h .kind) (size (h .count)) (acceptedIn (h .count) (has (h .set)) rows) p a b .second))
+    → ((serials : List ℕ) → c ≡ showingCode (shown (recoveryIn head serials rows) p a b .answer))
+    × (((serials : List ℕ) → first ≡ shown (recoveryIn head serials rows) p a b .first) × ((serials : List ℕ) → second ≡ shown (recoveryIn head serials rows) p a b .second))
+shows-are head h says rows p a b x c first second code (e, (f, g)) =
+    (λ t. code ∙ ap showingCode (e ∙ ap (λ (w : Shown). w .answer) (is t)), (λ t. f ∙ ap (λ (w : Shown). w .first) (is t), λ t. g ∙ ap (λ (w : Shown). w .second) (is t)))
+  where
+    is : (t : List ℕ) → shownIn (h .kind) (size (h .count)) (acceptedIn (h .count) (has (h .set)) rows) p a b ≡ shown (recoveryIn head t rows) p a b
+    is t = shown-is head h says t rows p a b

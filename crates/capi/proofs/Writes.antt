@@ -1,0 +1,73 @@
+-- Writing a record from the caller's memory: one law for each way in which the code returns. Assumes nothing.
+use mathlib.Core.Path.{_≡_, refl, ap, _∙_, subst}
+use mathlib.Core.Bool.{true, false}
+use mathlib.Core.List.{List}
+use Prim.Native.Nat.{ℕ, _≤_, _<_}
+use lib.ListN.{length, take}
+use borrow.Author.Tests.{ne-eqb}
+use Rattle.places.specs.Sets.{Places}
+use Rattle.places.specs.PlaceSets.{has}
+use Rattle.places.specs.declared.PlaceSet.{PlaceSet}
+use Rattle.histories.specs.declared.Kind.{Kind}
+use Rattle.histories.specs.declared.Kind.the-variants.{Full, Short}
+use Rattle.histories.specs.Rule as rule
+use Rattle.answers.specs.Views.{size, acceptedIn}
+use Rattle.records.specs.Layout.{knownKind, kindOf}
+use Rattle.records.specs.declared.Writing.{Writing}
+use Rattle.records.specs.declared.Writing.the-variants as W
+use Rattle.records.specs.Records.{Written, unwritten, written}
+use Rattle.recovery.specs.declared.Recovery.{Recovery}
+use Rattle.recovery.specs.Contracts.{sizeOf, acceptedOf}
+use Rattle.recovery.proofs.Writes.{Leaves, write-12, write-14, write-back}
+use Rattle.capi.specs.declared.Head.{Head}
+use Rattle.capi.specs.declared.End.{End}
+use Rattle.capi.specs.Boundary.{recoveryIn, endOf, writtenParts}
+use Rattle.capi.proofs.Calls.{Says, partsOf, held}
+
+-- ---- the record of a returned place
+
+module _ (head : List ℕ) (h : Head) (says : Says head h) (serials rows : List ℕ) (p : ℕ) (out : List ℕ) (at : ℕ) where
+  in-memory : (a : Writing) (after : List ℕ) → Leaves (partsOf h serials rows) p out at a after → Leaves (recoveryIn head serials rows) p out at a after
+  in-memory a after l = subst (λ (r : Recovery). Leaves r p out at a after) (held head h says serials rows) l
+
+  pub back-12 : size (h .count) ≤ p → Leaves (recoveryIn head serials rows) p out at (W.Refused 12) out
+  unfolding sizeOf
+  back-12 l = in-memory (W.Refused 12) out (write-12 (partsOf h serials rows) p out at l)
+
+  module _ (l : p < size (h .count)) where
+    pub back-14 : has (h .set) p ≡ false → Leaves (recoveryIn head serials rows) p out at (W.Refused 14) out
+    unfolding sizeOf
+    back-14 e = in-memory (W.Refused 14) out (write-14 (partsOf h serials rows) p out at l e)
+
+    pub back-written : has (h .set) p ≡ true → (n : ℕ) → n ≡ size (h .count) → n ≡ length (take n serials)
+        → (row : PlaceSet) → has row ≡ rule.recorded (acceptedIn (h .count) (has (h .set)) rows) p → (a : Writing) (after : List ℕ)
+        → (a ≡ written (h .kind) p (take n serials) (has row) out at .answer) × (after ≡ written (h .kind) p (take n serials) (has row) out at .buffer)
+        → Leaves (recoveryIn head serials rows) p out at a after
+    unfolding sizeOf acceptedOf
+    back-written b n is all row e a after w = in-memory a after (write-back (partsOf h serials rows) p out at l b n is all row e a after w)
+
+-- ---- a record from its parts
+
+module _ (kind own : ℕ) (roster : List ℕ) (M : Places) (out : List ℕ) (at : ℕ) where
+  abbrev Ends : Written → End → List ℕ → Type 0
+  Ends w e after = (e ≡ endOf (w .answer)) × (after ≡ w .buffer)
+
+  -- the end and the buffer are those of writing from parts
+  abbrev pub Lays : End → List ℕ → Type 0
+  Lays = Ends (writtenParts kind own roster M out at)
+
+  module _ (a : Writing) (e : End) (after : List ℕ) (is : e ≡ endOf a) where
+    ends : (k : Kind) → (a ≡ written k own roster M out at .answer) × (after ≡ written k own roster M out at .buffer) → Ends (written k own roster M out at) e after
+    ends k (f, g) = (is ∙ ap endOf f, g)
+
+    pub lays-full : kind ≡ 1 → (a ≡ written Full own roster M out at .answer) × (after ≡ written Full own roster M out at .buffer) → Lays e after
+    unfolding writtenParts knownKind kindOf
+    lays-full k w = rw k (ends Full w)
+
+    pub lays-short : kind ≡ 2 → (a ≡ written Short own roster M out at .answer) × (after ≡ written Short own roster M out at .buffer) → Lays e after
+    unfolding writtenParts knownKind kindOf
+    lays-short k w = rw k (ends Short w)
+
+  pub lays-none : (kind ≡ 1 → ⊥) → (kind ≡ 2 → ⊥) → Lays (record { refusal = 2; next = 0 }) out
+  unfolding writtenParts knownKind unwritten endOf
+  lays-none a b = rw (ne-eqb kind 1 a, ne-eqb kind 2 b) (refl, refl)

@@ -1,0 +1,24 @@
+-- `capi::gm_settled` meets its contract. Assumes nothing.
+use mathlib.Core.Path.{_∙_}
+use borrow.Author.Needs.{needs}
+use Rattle.capi.proofs.Calls.{settled-is}
+use Rattle.capi.proofs.gm_settled.Statement.{statement}
+use Rattle.capi.proofs.gm_settled.Tie as tie
+
+read-head-requires : tie.Need-read-head-requires
+read-head-requires c κs = search needs
+
+settled-requires : tie.Need-settled-requires
+settled-requires c κs = search needs
+
+yes-code-requires : tie.Need-yes-code-requires
+yes-code-requires c κs = search needs
+
+returns : tie.Need-returns
+returns c = λ serials.
+    let h = c .before .before .before in
+    c .yes-code .ensures ∙ settled-is _ _ (h .read-head .ensures) _ _ _ (c .before .settled .ensures)
+
+pub gm-settled-spec : {M : Type 1} → statement M
+gm-settled-spec =
+    tie.close (tie.spec read-head-requires settled-requires yes-code-requires returns)

@@ -1,0 +1,171 @@
+-- The boundary to C: a recovery or a day as four words, 128 serials and 256 words of rows in the caller's memory, and document
+-- 01's answers as numbers. Assumes nothing.
+use mathlib.Core.Bool.{Bool, cond}
+use mathlib.Core.List.{List, [], _∷_}
+use Prim.Native.Nat.{ℕ}
+use lib.ListN.{getD}
+use lib.Dec.{eqb}
+use Rattle.places.specs.Sets.{Places}
+use Rattle.places.specs.PlaceSets.{packed}
+use Rattle.places.specs.declared.PlaceSet.{PlaceSet}
+use Rattle.places.specs.declared.Found.{Found}
+use Rattle.places.specs.declared.Found.the-variants.{At, Nothing}
+use Rattle.histories.specs.declared.Kind.{Kind}
+use Rattle.histories.specs.declared.Kind.the-variants.{Full, Short}
+use Rattle.records.specs.Layout.{kindByte, knownKind, kindOf}
+use Rattle.records.specs.declared.Record.{Record}
+use Rattle.records.specs.declared.Reading.{Reading}
+use Rattle.records.specs.declared.Reading.the-variants as R
+use Rattle.records.specs.declared.Writing.{Writing}
+use Rattle.records.specs.declared.Writing.the-variants as W
+use Rattle.records.specs.Records.{Written, unwritten, written}
+use Rattle.replies.specs.declared.Reply.{Reply}
+use Rattle.replies.specs.declared.Reply.the-variants as O
+use Rattle.recovery.specs.declared.Recovery.{Recovery}
+use Rattle.recovery.specs.declared.Opening.{Opening}
+use Rattle.recovery.specs.declared.Opening.the-variants as G
+use Rattle.recovery.specs.declared.Opened.{Opened}
+use Rattle.recovery.specs.declared.Asked.{Asked}
+use Rattle.recovery.specs.declared.Asked.the-variants as A
+use Rattle.shows.specs.declared.Showing.{Showing}
+use Rattle.shows.specs.declared.Showing.the-variants as S
+use Rattle.recovery.specs.declared.Checked.{Checked}
+use Rattle.recovery.specs.declared.Checked.the-variants as C
+use Rattle.recovery.specs.Contracts.{opened, offered}
+use Rattle.executions.specs.declared.Day.{Day}
+use Rattle.executions.specs.declared.Event.{Event}
+use Rattle.executions.specs.declared.Opening as day
+use Rattle.executions.specs.declared.Opening.the-variants as B
+use Rattle.executions.specs.Contracts.{begun, happened}
+use Rattle.capi.specs.declared.End.{End}
+
+-- ---- a recovery, or a day, in the caller's memory
+
+-- the four words: the kind (2 is short, every other word counts as full), the count, and two words of places: those back, or stopped
+unfoldable pub kindIn : List ℕ → Kind
+kindIn head = cond (eqb (getD head 0 0) 2) Short Full
+
+unfoldable pub setIn : List ℕ → PlaceSet
+setIn head = record { low = getD head 2 0; high = getD head 3 0 }
+
+-- two words of places alone
+unfoldable pub setAt : List ℕ → PlaceSet
+setAt w = record { low = getD w 0 0; high = getD w 1 0 }
+
+unfoldable pub recoveryIn : List ℕ → List ℕ → List ℕ → Recovery
+recoveryIn head serials rows = record { kind = kindIn head; count = getD head 1 0; serials = serials; returned = setIn head; rows = rows }
+
+unfoldable pub dayIn : List ℕ → List ℕ → List ℕ → Day
+dayIn head serials rows = record { kind = kindIn head; count = getD head 1 0; serials = serials; stopped = setIn head; rows = rows }
+
+unfoldable pub headOf : Kind → ℕ → PlaceSet → List ℕ
+headOf k count s = kindByte k ∷ count ∷ s .low ∷ s .high ∷ []
+
+-- the words with other places
+unfoldable pub withSet : List ℕ → PlaceSet → List ℕ
+withSet head s = getD head 0 0 ∷ getD head 1 0 ∷ s .low ∷ s .high ∷ []
+
+-- what a call answers, and the caller's memory after it
+pub record Held : Type 0 where
+  pub code : ℕ
+  pub head : List ℕ
+  pub serials : List ℕ
+  pub rows : List ℕ
+
+-- ---- answers as numbers: a refusal is its number, 0 says that it was done, and each other word has a number from 32 on
+
+unfoldable pub replyCode : Reply → ℕ
+replyCode O.Taken = 0
+replyCode O.Repeated = 32
+replyCode (O.Refused j) = j
+
+unfoldable pub askedCode : Asked → ℕ
+askedCode A.Last = 33
+askedCode A.NotLast = 34
+askedCode A.Open = 35
+askedCode (A.Refused j) = j
+
+unfoldable pub showingCode : Showing → ℕ
+showingCode S.Shown = 0
+showingCode S.Decided = 36
+showingCode (S.Refused j) = j
+
+unfoldable pub checkedCode : Checked → ℕ
+checkedCode C.Fits = 37
+checkedCode C.FitsNot = 38
+checkedCode (C.Refused j) = j
+
+-- whether or not: 1 or 0
+unfoldable pub yesCode : Bool → ℕ
+yesCode b = cond b 1 0
+
+-- the place that was found, or 128, which is no place
+unfoldable pub foundCode : Found → ℕ
+foundCode (At p) = p .0
+foundCode Nothing = 128
+
+-- the refusal, or 0 and where the record ends
+unfoldable pub endOf : Writing → End
+endOf (W.Next e) = record { refusal = 0; next = e }
+endOf (W.Refused j) = record { refusal = j; next = 0 }
+
+-- the two words of a set of places
+unfoldable pub wordsOf : Places → List ℕ
+wordsOf S = packed S .low ∷ packed S .high ∷ []
+
+-- ---- opening: the caller's memory is written only where it is opened
+
+unfoldable pub openedAs : Opening → Recovery → List ℕ → List ℕ → List ℕ → Held
+openedAs G.Opened r head serials rows = record { code = 0; head = headOf (r .kind) (r .count) (r .returned); serials = r .serials; rows = r .rows }
+openedAs (G.Refused j) r head serials rows = record { code = j; head = head; serials = serials; rows = rows }
+
+unfoldable pub openedHeld : ℕ → List ℕ → List ℕ → List ℕ → List ℕ → Held
+openedHeld kind s head serials rows = openedAs (opened kind s .answer) (opened kind s .recovery) head serials rows
+
+unfoldable pub begunAs : day.Opening → Day → List ℕ → List ℕ → List ℕ → Held
+begunAs B.Opened d head serials rows = record { code = 0; head = headOf (d .kind) (d .count) (d .stopped); serials = d .serials; rows = d .rows }
+begunAs (B.Refused j) d head serials rows = record { code = j; head = head; serials = serials; rows = rows }
+
+unfoldable pub begunHeld : ℕ → List ℕ → List ℕ → List ℕ → List ℕ → Held
+begunHeld kind s head serials rows = begunAs (begun kind s .answer) (begun kind s .day) head serials rows
+
+-- ---- offering a lone record
+
+unfoldable pub offeredHeld : List ℕ → List ℕ → List ℕ → List ℕ → Held
+offeredHeld head serials rows bytes =
+    record {
+      code = replyCode (offered (recoveryIn head serials rows) bytes .answer);
+      head = withSet head (offered (recoveryIn head serials rows) bytes .recovery .returned);
+      serials = serials;
+      rows = offered (recoveryIn head serials rows) bytes .recovery .rows;
+    }
+
+-- ---- one event of a day
+
+unfoldable pub happenedHeld : List ℕ → List ℕ → List ℕ → Event → Held
+happenedHeld head serials rows e =
+    record {
+      code = happened (dayIn head serials rows) e .refusal;
+      head = withSet head (happened (dayIn head serials rows) e .day .stopped);
+      serials = serials;
+      rows = happened (dayIn head serials rows) e .day .rows;
+    }
+
+-- ---- a record that was read, as seven words: kind, own place, where the roster starts, its count, the mourned set, where the record ends
+
+unfoldable pub recordWords : Record → List ℕ
+recordWords x = kindByte (x .kind) ∷ x .own .0 ∷ x .roster ∷ x .count ∷ x .mourned .low ∷ x .mourned .high ∷ x .next ∷ []
+
+unfoldable pub readCode : Reading → ℕ
+readCode (R.Read x) = 0
+readCode (R.Refused j) = j
+
+-- the words after reading: where it is refused they stay as they were
+unfoldable pub readWords : Reading → List ℕ → List ℕ
+readWords (R.Read x) out = recordWords x
+readWords (R.Refused j) out = out
+
+-- ---- writing a record from its parts: an unknown kind is 2, before all else
+
+unfoldable pub writtenParts : ℕ → ℕ → List ℕ → Places → List ℕ → ℕ → Written
+writtenParts kind own roster M out at = cond (knownKind kind) (written (kindOf kind) own roster M out at) (unwritten 2 out)

@@ -1,0 +1,501 @@
+// The library as C links it. A recovery and a day are three arrays in the caller's memory: four words (the kind, the count, two words of
+// the places that are back, or have stopped), 128 serials, 256 words of rows. Nothing is kept between calls, and every input has an
+// answer: include/goatmonth.h says what a caller promises of its pointers. specs/Boundary.antt has the numbers of the answers.
+ghost use mathlib.Core.Path.{_≡_};
+ghost use mathlib.Core.List.{List, [], _∷_};
+ghost use Prim.Native.Nat.{ℕ, _≤_};
+ghost use lib.ListN.{length, take, getD};
+ghost use Rattle.places.specs.PlaceSets.{has, packed, found};
+ghost use Rattle.places.specs.Sets.{with};
+ghost use Rattle.rosters.specs.Rosters.{placeOf};
+ghost use Rattle.rows.specs.Rows.{withRow};
+ghost use Rattle.records.specs.Layout.{kindByte};
+ghost use Rattle.records.specs.Records.{reading, readingLone, rosterIs, copiable, copied};
+ghost use Rattle.recovery.specs.Contracts.{answered, asked, shown, checked, settledOf, unmournedOf, unmournedAbsentOf, unmournedCountOf, foundIn, writtenOf};
+ghost use Rattle.capi.specs.Boundary.{kindIn, setIn, recoveryIn, setAt, headOf, withSet, openedHeld, offeredHeld, replyCode, askedCode, showingCode, checkedCode, yesCode, foundCode, endOf, wordsOf, readCode, readWords, writtenParts};
+use answers::Answer;
+use histories::Kind;
+use places::Found;
+use places::Place;
+use places::PlaceSet;
+use records::Reading;
+use records::Writing;
+use recovery::Opening;
+use replies::Reply;
+use rosters::Serial;
+use shows::Showing;
+
+// What a writer gives: a refusal and 0, or 0 and where the record ends.
+#[repr(C)]
+pub struct End {
+    pub refusal: u64,
+    pub next: u64,
+}
+
+// ---- the four words of a recovery or a day
+
+// What they say: the kind, the count, and the places that are back, or have stopped.
+struct Head {
+    kind: Kind,
+    count: usize,
+    set: PlaceSet,
+}
+
+fn kind_of(word: u64) -> Kind
+    ensures { λ k. ⌜ k ≡ kindIn (word ∷ []) ⌝ }
+{
+    if word == 2 {
+        return Kind::Short;
+    }
+    Kind::Full
+}
+
+fn read_head(head: &[u64]) -> Head
+    requires { ⌜ length (now head) ≡ 4 ⌝ }
+    ensures { λ h. ⌜ h .kind ≡ kindIn (now (head .entry)) ⌝ }
+    ensures { λ h. ⌜ h .count ≡ getD (now (head .entry)) 1 0 ⌝ }
+    ensures { λ h. ⌜ h .set ≡ setIn (now (head .entry)) ⌝ }
+{
+    let set = PlaceSet {
+        low: head[2],
+        high: head[3],
+    };
+    Head {
+        kind: kind_of(head[0]),
+        count: head[1] as usize,
+        set,
+    }
+}
+
+fn kind_word(kind: Kind) -> u64
+    ensures { λ r. ⌜ r ≡ kindByte kind ⌝ }
+{
+    match kind {
+        Kind::Full => 1,
+        Kind::Short => 2,
+    }
+}
+
+fn write_head(head: &mut [u64; 4], kind: Kind, count: usize, set: PlaceSet)
+    ensures { λ r. ⌜ now (head .exit) ≡ headOf kind count set ⌝ }
+{
+    let word = kind_word(kind);
+    let words = [word, count as u64, set.low, set.high];
+    *head = words;
+}
+
+// The two words of places alone.
+fn write_set(head: &mut [u64; 4], set: PlaceSet)
+    ensures { λ r. ⌜ now (head .exit) ≡ withSet (now (head .entry)) set ⌝ }
+{
+    let words = [head[0], head[1], set.low, set.high];
+    *head = words;
+}
+
+// ---- answers as numbers
+
+fn yes_code(b: bool) -> u8
+    ensures { λ r. ⌜ r ≡ yesCode b ⌝ }
+{
+    if b {
+        return 1;
+    }
+    0
+}
+
+fn found_code(found: Found) -> usize
+    ensures { λ r. ⌜ r ≡ foundCode found ⌝ }
+{
+    match found {
+        Found::At(place) => place.0,
+        Found::Nothing => 128,
+    }
+}
+
+fn showing_code(answer: Showing) -> u8
+    ensures { λ r. ⌜ r ≡ showingCode answer ⌝ }
+{
+    match answer {
+        Showing::Shown => 0,
+        Showing::Decided => 36,
+        Showing::Refused(fault) => fault,
+    }
+}
+
+fn end_of(answer: Writing) -> End
+    ensures { λ r. ⌜ r ≡ endOf answer ⌝ }
+{
+    match answer {
+        Writing::Next(end) => End {
+            refusal: 0,
+            next: end as u64,
+        },
+        Writing::Refused(fault) => End {
+            refusal: fault as u64,
+            next: 0,
+        },
+    }
+}
+
+// ---- a recovery
+
+// Opens a recovery: 2, 3, 4, 5, or 0. Where it is refused, nothing is written.
+#[no_mangle]
+pub extern "C" fn gm_open(
+    kind: u8,
+    list: &[u32],
+    head: &mut [u64; 4],
+    serials: &mut [u32; 128],
+    rows: &mut [u64; 256],
+) -> u8
+    ensures { λ r. ⌜ r ≡ openedHeld kind (now (list .entry)) (now (head .entry)) (now (serials .entry)) (now (rows .entry)) .code ⌝ }
+    ensures { λ r. ⌜ now (head .exit) ≡ openedHeld kind (now (list .entry)) (now (head .entry)) (now (serials .entry)) (now (rows .entry)) .head ⌝ }
+    ensures { λ r. ⌜ now (serials .exit) ≡ openedHeld kind (now (list .entry)) (now (head .entry)) (now (serials .entry)) (now (rows .entry)) .serials ⌝ }
+    ensures { λ r. ⌜ now (rows .exit) ≡ openedHeld kind (now (list .entry)) (now (head .entry)) (now (serials .entry)) (now (rows .entry)) .rows ⌝ }
+{
+    let opened = recovery::open(kind, list);
+    let answer = opened.answer;
+    let r = opened.recovery;
+    match answer {
+        Opening::Opened => {
+            let kind = r.kind;
+            let returned = r.returned;
+            let all = r.serials;
+            let none = r.rows;
+            write_head(head, kind, r.count, returned);
+            *serials = all;
+            *rows = none;
+            0
+        }
+        Opening::Refused(fault) => fault,
+    }
+}
+
+// What a reply to the record of a place leaves, and its number: one that is taken is kept. Whatever the serials are.
+fn answer_with(
+    head: &mut [u64; 4],
+    rows: &mut [u64; 256],
+    own: Place,
+    mourned: PlaceSet,
+    reply: Reply,
+) -> u8
+    ensures { λ r. ⌜ r ≡ replyCode reply ⌝ }
+    ensures { λ r. ⌜ ((serials : List ℕ) → now (head .exit) ≡ withSet (now (head .entry)) (answered (recoveryIn (now (head .entry)) serials (now (rows .entry))) (own .0) (has mourned) reply .recovery .returned)) ⌝ }
+    ensures { λ r. ⌜ ((serials : List ℕ) → now (rows .exit) ≡ answered (recoveryIn (now (head .entry)) serials (now (rows .entry))) (own .0) (has mourned) reply .recovery .rows) ⌝ }
+{
+    let h = read_head(head);
+    let returned = h.set;
+    match reply {
+        Reply::Taken => {
+            write_set(head, places::with(returned, own));
+            rows::set(rows, own, mourned);
+            0
+        }
+        Reply::Repeated => 32,
+        Reply::Refused(fault) => fault,
+    }
+}
+
+// Offers a lone record: 1 to 11, 32 for repeated, or 0 for taken.
+#[no_mangle]
+pub extern "C" fn gm_offer(
+    head: &mut [u64; 4],
+    serials: &[u32; 128],
+    rows: &mut [u64; 256],
+    bytes: &[u8],
+) -> u8
+    ensures { λ r. ⌜ r ≡ offeredHeld (now (head .entry)) (now (serials .entry)) (now (rows .entry)) (now (bytes .entry)) .code ⌝ }
+    ensures { λ r. ⌜ now (head .exit) ≡ offeredHeld (now (head .entry)) (now (serials .entry)) (now (rows .entry)) (now (bytes .entry)) .head ⌝ }
+    ensures { λ r. ⌜ now (rows .exit) ≡ offeredHeld (now (head .entry)) (now (serials .entry)) (now (rows .entry)) (now (bytes .entry)) .rows ⌝ }
+{
+    let h = read_head(head);
+    let kind = h.kind;
+    let returned = h.set;
+    let got = records::read_lone(bytes);
+    match got {
+        Reading::Read(x) => {
+            let reply = replies::judge(kind, h.count, serials, returned, rows, bytes, x);
+            let own = x.own;
+            let mourned = x.mourned;
+            answer_with(head, rows, own, mourned, reply)
+        }
+        Reading::Refused(fault) => fault,
+    }
+}
+
+// Asks for a place: 12, 33 last, 34 not last, 35 open. Whatever the serials are.
+#[no_mangle]
+pub extern "C" fn gm_ask(head: &[u64; 4], rows: &[u64; 256], place: usize) -> u8
+    ensures { λ r. ⌜ ((serials : List ℕ) → r ≡ askedCode (asked (recoveryIn (now (head .entry)) serials (now (rows .entry))) place)) ⌝ }
+{
+    let h = read_head(head);
+    let kind = h.kind;
+    let returned = h.set;
+    let count = h.count;
+    let n = answers::size(count);
+    if n <= place {
+        return 12;
+    }
+    let answer = answers::answer_for(kind, rows, returned, count, Place(place));
+    match answer {
+        Answer::Last => 33,
+        Answer::NotLast => 34,
+        Answer::Open => 35,
+    }
+}
+
+// Whether no place is open: 1 or 0.
+#[no_mangle]
+pub extern "C" fn gm_settled(head: &[u64; 4], rows: &[u64; 256]) -> u8
+    ensures { λ r. ⌜ ((serials : List ℕ) → r ≡ yesCode (settledOf (recoveryIn (now (head .entry)) serials (now (rows .entry))))) ⌝ }
+{
+    let h = read_head(head);
+    let kind = h.kind;
+    let returned = h.set;
+    let count = h.count;
+    let settled = answers::settled(kind, rows, returned, count);
+    yes_code(settled)
+}
+
+// The two words of a set.
+fn put_set(out: &mut [u64; 2], s: PlaceSet)
+    ensures { λ r. ⌜ now (out .exit) ≡ s .low ∷ s .high ∷ [] ⌝ }
+{
+    let words = [s.low, s.high];
+    *out = words;
+}
+
+// The unmourned places, as two words. Whatever the serials are.
+#[no_mangle]
+pub extern "C" fn gm_unmourned(head: &[u64; 4], rows: &[u64; 256], out: &mut [u64; 2])
+    ensures { λ r. ⌜ ((serials : List ℕ) → now (out .exit) ≡ wordsOf (unmournedOf (recoveryIn (now (head .entry)) serials (now (rows .entry))))) ⌝ }
+{
+    let h = read_head(head);
+    let returned = h.set;
+    let all = answers::unmourned(rows, returned, h.count);
+    put_set(out, all);
+}
+
+// The unmourned places that are absent, as two words. Whatever the serials are.
+#[no_mangle]
+pub extern "C" fn gm_unmourned_absent(head: &[u64; 4], rows: &[u64; 256], out: &mut [u64; 2])
+    ensures { λ r. ⌜ ((serials : List ℕ) → now (out .exit) ≡ wordsOf (unmournedAbsentOf (recoveryIn (now (head .entry)) serials (now (rows .entry))))) ⌝ }
+{
+    let h = read_head(head);
+    let returned = h.set;
+    let all = answers::unmourned(rows, returned, h.count);
+    let absent = places::difference(all, returned);
+    put_set(out, absent);
+}
+
+// How many are unmourned. Whatever the serials are.
+#[no_mangle]
+pub extern "C" fn gm_unmourned_count(head: &[u64; 4], rows: &[u64; 256]) -> usize
+    ensures { λ r. ⌜ ((serials : List ℕ) → r ≡ unmournedCountOf (recoveryIn (now (head .entry)) serials (now (rows .entry)))) ⌝ }
+{
+    let h = read_head(head);
+    let returned = h.set;
+    let all = answers::unmourned(rows, returned, h.count);
+    places::count(all)
+}
+
+// Checks a lent history: 13, 15, 37 fits, 38 fits not. Whatever the serials are.
+#[no_mangle]
+pub extern "C" fn gm_check(head: &[u64; 4], rows: &[u64; 256], history: &[u8]) -> u8
+    ensures { λ r. ⌜ ((serials : List ℕ) → r ≡ checkedCode (checked (recoveryIn (now (head .entry)) serials (now (rows .entry))) (now (history .entry)))) ⌝ }
+{
+    let h = read_head(head);
+    let kind = h.kind;
+    let returned = h.set;
+    let count = h.count;
+    let n = answers::size(count);
+    if history.len() < 16 * n {
+        return 13;
+    }
+    if checks::off_roster(history, count) {
+        return 15;
+    }
+    if checks::fits(kind, rows, returned, count, history) {
+        return 37;
+    }
+    38
+}
+
+// Shows two histories that fit and differ on a place: 12, 36 decided, 13, or 0 and both laid down. Whatever the serials are.
+#[no_mangle]
+pub extern "C" fn gm_show(
+    head: &[u64; 4],
+    rows: &[u64; 256],
+    place: usize,
+    first: &mut [u8],
+    second: &mut [u8],
+) -> u8
+    ensures { λ r. ⌜ ((serials : List ℕ) → r ≡ showingCode (shown (recoveryIn (now (head .entry)) serials (now (rows .entry))) place (now (first .entry)) (now (second .entry)) .answer)) ⌝ }
+    ensures { λ r. ⌜ ((serials : List ℕ) → now (first .exit) ≡ shown (recoveryIn (now (head .entry)) serials (now (rows .entry))) place (now (first .entry)) (now (second .entry)) .first) ⌝ }
+    ensures { λ r. ⌜ ((serials : List ℕ) → now (second .exit) ≡ shown (recoveryIn (now (head .entry)) serials (now (rows .entry))) place (now (first .entry)) (now (second .entry)) .second) ⌝ }
+{
+    let h = read_head(head);
+    let kind = h.kind;
+    let returned = h.set;
+    let count = h.count;
+    let answer = shows::show(kind, rows, returned, count, Place(place), first, second);
+    showing_code(answer)
+}
+
+// The place of a serial among the first n.
+fn find_among(serials: &[u32], n: usize, serial: Serial) -> Found
+    requires { ⌜ n ≤ length (now serials) ⌝ }
+    ensures { λ r. ⌜ r ≡ found (length (take n (now (serials .entry)))) (placeOf (serial .0) (take n (now (serials .entry)))) ⌝ }
+{
+    rosters::find(&serials[..n], serial)
+}
+
+// The place of a serial, or 128. Whatever the rows are.
+#[no_mangle]
+pub extern "C" fn gm_find(head: &[u64; 4], serials: &[u32; 128], serial: u32) -> usize
+    ensures { λ r. ⌜ ((rows : List ℕ) → r ≡ foundCode (foundIn (recoveryIn (now (head .entry)) (now (serials .entry)) rows) serial)) ⌝ }
+{
+    let h = read_head(head);
+    let n = answers::size(h.count);
+    let place = find_among(serials, n, Serial(serial));
+    found_code(place)
+}
+
+// Writes the record of a returned place: 12, 14, 13, or where it ends.
+fn write_back(
+    head: &[u64; 4],
+    serials: &[u32],
+    rows: &[u64; 256],
+    place: Place,
+    out: &mut [u8],
+    at: usize,
+) -> Writing
+    requires { ⌜ length (now serials) ≡ 128 ⌝ }
+    ensures { λ r. ⌜ r ≡ writtenOf (recoveryIn (now (head .entry)) (now (serials .entry)) (now (rows .entry))) (place .0) (now (out .entry)) at .answer ⌝ }
+    ensures { λ r. ⌜ now (out .exit) ≡ writtenOf (recoveryIn (now (head .entry)) (now (serials .entry)) (now (rows .entry))) (place .0) (now (out .entry)) at .buffer ⌝ }
+{
+    let h = read_head(head);
+    let kind = h.kind;
+    let returned = h.set;
+    let n = answers::size(h.count);
+    if n <= place.0 {
+        return Writing::Refused(12);
+    }
+    if !places::contains(returned, place) {
+        return Writing::Refused(14);
+    }
+    let row = answers::recorded(rows, returned, h.count, place);
+    records::write(kind, place, &serials[..n], row, out, at)
+}
+
+// Writes the record of a returned place into a lent buffer from a position on: 12, 14, 13, or 0 and where it ends.
+#[no_mangle]
+pub extern "C" fn gm_write(
+    head: &[u64; 4],
+    serials: &[u32; 128],
+    rows: &[u64; 256],
+    place: usize,
+    out: &mut [u8],
+    at: usize,
+) -> End
+    ensures { λ r. ⌜ r ≡ endOf (writtenOf (recoveryIn (now (head .entry)) (now (serials .entry)) (now (rows .entry))) place (now (out .entry)) at .answer) ⌝ }
+    ensures { λ r. ⌜ now (out .exit) ≡ writtenOf (recoveryIn (now (head .entry)) (now (serials .entry)) (now (rows .entry))) place (now (out .entry)) at .buffer ⌝ }
+{
+    let answer = write_back(head, serials, rows, Place(place), out, at);
+    end_of(answer)
+}
+
+// ---- records
+
+// The seven words of a record that was read, or its refusal.
+fn put_reading(out: &mut [u64; 7], got: Reading) -> u8
+    ensures { λ r. ⌜ r ≡ readCode got ⌝ }
+    ensures { λ r. ⌜ now (out .exit) ≡ readWords got (now (out .entry)) ⌝ }
+{
+    match got {
+        Reading::Read(x) => {
+            let kind = x.kind;
+            let own = x.own;
+            let mourned = x.mourned;
+            let word = kind_word(kind);
+            let words = [
+                word,
+                own.0 as u64,
+                x.roster as u64,
+                x.count as u64,
+                mourned.low,
+                mourned.high,
+                x.next as u64,
+            ];
+            *out = words;
+            0
+        }
+        Reading::Refused(fault) => fault,
+    }
+}
+
+// Reads the record that starts at a position: 1 to 7, or 0 and its seven words.
+#[no_mangle]
+pub extern "C" fn gm_read(bytes: &[u8], at: usize, out: &mut [u64; 7]) -> u8
+    ensures { λ r. ⌜ r ≡ readCode (reading (now (bytes .entry)) at) ⌝ }
+    ensures { λ r. ⌜ now (out .exit) ≡ readWords (reading (now (bytes .entry)) at) (now (out .entry)) ⌝ }
+{
+    let got = records::read(bytes, at);
+    put_reading(out, got)
+}
+
+// Reads a lone record: 1 to 8, or 0 and its seven words.
+#[no_mangle]
+pub extern "C" fn gm_read_lone(bytes: &[u8], out: &mut [u64; 7]) -> u8
+    ensures { λ r. ⌜ r ≡ readCode (readingLone (now (bytes .entry))) ⌝ }
+    ensures { λ r. ⌜ now (out .exit) ≡ readWords (readingLone (now (bytes .entry))) (now (out .entry)) ⌝ }
+{
+    let got = records::read_lone(bytes);
+    put_reading(out, got)
+}
+
+// Whether the serials from a position on are those of a list: 1 or 0.
+#[no_mangle]
+pub extern "C" fn gm_roster_is(bytes: &[u8], at: usize, count: usize, list: &[u32]) -> u8
+    ensures { λ r. ⌜ r ≡ yesCode (rosterIs (now (bytes .entry)) at count (now (list .entry))) ⌝ }
+{
+    let same = records::roster_is(bytes, at, count, list);
+    yes_code(same)
+}
+
+// Copies the serials from a position on into the front of a list: 1, or 0 where they are not all there or too many.
+#[no_mangle]
+pub extern "C" fn gm_copy_roster(bytes: &[u8], at: usize, count: usize, list: &mut [u32; 128]) -> u8
+    ensures { λ r. ⌜ r ≡ yesCode (copiable (now (bytes .entry)) at count) ⌝ }
+    ensures { λ r. ⌜ now (list .exit) ≡ copied (now (bytes .entry)) at count (now (list .entry)) ⌝ }
+{
+    let done = records::copy_roster(bytes, at, count, list);
+    yes_code(done)
+}
+
+// Writes a record from its parts: 2, 12, 3, 13, or 0 and where it ends.
+#[no_mangle]
+pub extern "C" fn gm_write_record(
+    kind: u8,
+    own: usize,
+    roster: &[u32],
+    mourned: &[u64; 2],
+    out: &mut [u8],
+    at: usize,
+) -> End
+    ensures { λ r. ⌜ r ≡ endOf (writtenParts kind own (now (roster .entry)) (has (setAt (now (mourned .entry)))) (now (out .entry)) at .answer) ⌝ }
+    ensures { λ r. ⌜ now (out .exit) ≡ writtenParts kind own (now (roster .entry)) (has (setAt (now (mourned .entry)))) (now (out .entry)) at .buffer ⌝ }
+{
+    let set = PlaceSet {
+        low: mourned[0],
+        high: mourned[1],
+    };
+    match kind {
+        1 => end_of(records::write(Kind::Full, Place(own), roster, set, out, at)),
+        2 => end_of(records::write(Kind::Short, Place(own), roster, set, out, at)),
+        0 | 3..=255 => End {
+            refusal: 2,
+            next: 0,
+        },
+    }
+}
