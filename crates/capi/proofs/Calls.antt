@@ -49,6 +49,13 @@ pub held : (head : List ℕ) (h : Head) → Says head h → (serials rows : List
 unfolding recoveryIn
 held head h (k, (n, s)) serials rows = λ i. record { kind = k i; count = n i; serials = serials; returned = s i; rows = rows }
 
+-- the records taken, and what showing gives, by what they say
+abbrev acceptedAt : Head → List ℕ → Accepted
+acceptedAt h rows = acceptedIn (h .count) (has (h .set)) rows
+
+abbrev shownAt : Head → List ℕ → ℕ → List ℕ → List ℕ → Shown
+shownAt h rows p a b = shownIn (h .kind) (size (h .count)) (acceptedAt h rows) p a b
+
 -- the words of a set are those of its places
 words-are : (s : PlaceSet) (S : Places) → Words s → has s ≡ S → s .low ∷ s .high ∷ [] ≡ wordsOf S
 unfolding wordsOf
@@ -60,7 +67,7 @@ module _ (head : List ℕ) (h : Head) (says : Says head h) (serials rows : List 
   parts = partsOf h serials rows
 
   abbrev accepted : Accepted
-  accepted = acceptedIn (h .count) (has (h .set)) rows
+  accepted = acceptedAt h rows
 
   in-memory : parts ≡ recoveryIn head serials rows
   in-memory = held head h says serials rows
@@ -115,7 +122,7 @@ module _ (head : List ℕ) (h : Head) (says : Says head h) (serials rows : List 
 
   -- ---- showing
 
-  shown-is : (p : ℕ) (a b : List ℕ) → shownIn (h .kind) (size (h .count)) accepted p a b ≡ shown (recoveryIn head serials rows) p a b
+  shown-is : (p : ℕ) (a b : List ℕ) → shownAt h rows p a b ≡ shown (recoveryIn head serials rows) p a b
   unfolding shown sizeOf acceptedOf
   shown-is p a b = ap (λ (r : Recovery). shown r p a b) in-memory
 
@@ -127,15 +134,13 @@ module _ (head : List ℕ) (h : Head) (says : Says head h) (serials rows : List 
   found-is x m f l e =
       ap foundCode (e ∙ ap (λ (m : ℕ). found (length (take m serials)) (placeOf x (take m serials))) l) ∙ ap (λ (r : Recovery). foundCode (foundIn r x)) in-memory
 
--- the code and both buffers
+-- the number and both buffers
 pub shows-are : (head : List ℕ) (h : Head) → Says head h → (rows : List ℕ) (p : ℕ) (a b : List ℕ) (x : Showing) (c : ℕ) (first second : List ℕ) → c ≡ showingCode x
-    → (x ≡ shownIn (h .kind) (size (h .count)) (acceptedIn (h .count) (has (h .set)) rows) p a b .answer)
-    × ((first ≡ shownIn (h .kind) (size (h .count)) (acceptedIn (h .count) (has (h .set)) rows) p a b .first)
-    × (second ≡ shownIn (h .kind) (size (h .count)) (acceptedIn (h .count) (has (h .set)) rows) p a b .second))
+    → (x ≡ shownAt h rows p a b .answer) × ((first ≡ shownAt h rows p a b .first) × (second ≡ shownAt h rows p a b .second))
     → ((serials : List ℕ) → c ≡ showingCode (shown (recoveryIn head serials rows) p a b .answer))
     × (((serials : List ℕ) → first ≡ shown (recoveryIn head serials rows) p a b .first) × ((serials : List ℕ) → second ≡ shown (recoveryIn head serials rows) p a b .second))
 shows-are head h says rows p a b x c first second code (e, (f, g)) =
     (λ t. code ∙ ap showingCode (e ∙ ap (λ (w : Shown). w .answer) (is t)), (λ t. f ∙ ap (λ (w : Shown). w .first) (is t), λ t. g ∙ ap (λ (w : Shown). w .second) (is t)))
   where
-    is : (t : List ℕ) → shownIn (h .kind) (size (h .count)) (acceptedIn (h .count) (has (h .set)) rows) p a b ≡ shown (recoveryIn head t rows) p a b
+    is : (t : List ℕ) → shownAt h rows p a b ≡ shown (recoveryIn head t rows) p a b
     is t = shown-is head h says t rows p a b

@@ -1,7 +1,8 @@
--- `Calls` has what each call on a recovery gives, by what its four words say; `Opens` what opening leaves in the caller's memory, and
--- `Offers` what offering does.
+-- `Calls` has what each call on a recovery gives, by what its four words say; `Opens` what opening leaves in the caller's memory,
+-- `Offers` what offering does, `Readings` and `Writes` what reading and writing a record do, and `Days` what an event does.
 pub mod Calls
 pub mod Opens
 pub mod Offers
 pub mod Readings
 pub mod Writes
+pub mod Days

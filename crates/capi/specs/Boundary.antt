@@ -142,6 +142,9 @@ offeredHeld head serials rows bytes =
 
 -- ---- one event of a day
 
+unfoldable pub eventOf : ℕ → ℕ → ℕ → Event
+eventOf kind place other = record { kind = kind; place = record { 0 = place }; other = record { 0 = other } }
+
 unfoldable pub happenedHeld : List ℕ → List ℕ → List ℕ → Event → Held
 happenedHeld head serials rows e =
     record {

@@ -5,15 +5,16 @@ ghost use mathlib.Core.Path.{_≡_};
 ghost use mathlib.Core.List.{List, [], _∷_};
 ghost use Prim.Native.Nat.{ℕ, _≤_};
 ghost use lib.ListN.{length, take, getD};
-ghost use Rattle.places.specs.PlaceSets.{has, packed, found};
-ghost use Rattle.places.specs.Sets.{with};
+ghost use Rattle.places.specs.PlaceSets.{has, found};
 ghost use Rattle.rosters.specs.Rosters.{placeOf};
-ghost use Rattle.rows.specs.Rows.{withRow};
 ghost use Rattle.records.specs.Layout.{kindByte};
 ghost use Rattle.records.specs.Records.{reading, readingLone, rosterIs, copiable, copied};
 ghost use Rattle.recovery.specs.Contracts.{answered, asked, shown, checked, settledOf, unmournedOf, unmournedAbsentOf, unmournedCountOf, foundIn, writtenOf};
-ghost use Rattle.capi.specs.Boundary.{kindIn, setIn, recoveryIn, setAt, headOf, withSet, openedHeld, offeredHeld, replyCode, askedCode, showingCode, checkedCode, yesCode, foundCode, endOf, wordsOf, readCode, readWords, writtenParts};
+ghost use Rattle.executions.specs.Contracts as days;
+ghost use Rattle.capi.specs.Boundary.{kindIn, setIn, recoveryIn, dayIn, setAt, eventOf, headOf, withSet, openedHeld, begunHeld, offeredHeld, happenedHeld, replyCode, askedCode, showingCode, checkedCode, yesCode, foundCode, endOf, wordsOf, readCode, readWords, writtenParts};
 use answers::Answer;
+use executions::Day;
+use executions::Event;
 use histories::Kind;
 use places::Found;
 use places::Place;
@@ -156,15 +157,15 @@ pub extern "C" fn gm_open(
     let opened = recovery::open(kind, list);
     let answer = opened.answer;
     let r = opened.recovery;
+    let kind = r.kind;
+    let returned = r.returned;
+    let roster = r.serials;
+    let recorded = r.rows;
     match answer {
         Opening::Opened => {
-            let kind = r.kind;
-            let returned = r.returned;
-            let all = r.serials;
-            let none = r.rows;
             write_head(head, kind, r.count, returned);
-            *serials = all;
-            *rows = none;
+            *serials = roster;
+            *rows = recorded;
             0
         }
         Opening::Refused(fault) => fault,
@@ -244,7 +245,7 @@ pub extern "C" fn gm_ask(head: &[u64; 4], rows: &[u64; 256], place: usize) -> u8
     }
 }
 
-// Whether no place is open: 1 or 0.
+// Whether no place is open: 1 or 0. Whatever the serials are.
 #[no_mangle]
 pub extern "C" fn gm_settled(head: &[u64; 4], rows: &[u64; 256]) -> u8
     ensures { λ r. ⌜ ((serials : List ℕ) → r ≡ yesCode (settledOf (recoveryIn (now (head .entry)) serials (now (rows .entry))))) ⌝ }
@@ -261,8 +262,8 @@ pub extern "C" fn gm_settled(head: &[u64; 4], rows: &[u64; 256]) -> u8
 fn put_set(out: &mut [u64; 2], s: PlaceSet)
     ensures { λ r. ⌜ now (out .exit) ≡ s .low ∷ s .high ∷ [] ⌝ }
 {
-    let words = [s.low, s.high];
-    *out = words;
+    let pair = [s.low, s.high];
+    *out = pair;
 }
 
 // The unmourned places, as two words. Whatever the serials are.
@@ -498,4 +499,103 @@ pub extern "C" fn gm_write_record(
             next: 0,
         },
     }
+}
+
+// ---- a day
+
+// Opens a day: 2, 3, 4, 5, or 0. Where it is refused, nothing is written.
+#[no_mangle]
+pub extern "C" fn gm_day_open(
+    kind: u8,
+    list: &[u32],
+    head: &mut [u64; 4],
+    serials: &mut [u32; 128],
+    rows: &mut [u64; 256],
+) -> u8
+    ensures { λ r. ⌜ r ≡ begunHeld kind (now (list .entry)) (now (head .entry)) (now (serials .entry)) (now (rows .entry)) .code ⌝ }
+    ensures { λ r. ⌜ now (head .exit) ≡ begunHeld kind (now (list .entry)) (now (head .entry)) (now (serials .entry)) (now (rows .entry)) .head ⌝ }
+    ensures { λ r. ⌜ now (serials .exit) ≡ begunHeld kind (now (list .entry)) (now (head .entry)) (now (serials .entry)) (now (rows .entry)) .serials ⌝ }
+    ensures { λ r. ⌜ now (rows .exit) ≡ begunHeld kind (now (list .entry)) (now (head .entry)) (now (serials .entry)) (now (rows .entry)) .rows ⌝ }
+{
+    let begun = executions::open(kind, list);
+    let answer = begun.answer;
+    let d = begun.day;
+    let kind = d.kind;
+    let stopped = d.stopped;
+    let all = d.serials;
+    let unheard = d.rows;
+    match answer {
+        executions::Opening::Opened => {
+            write_head(head, kind, d.count, stopped);
+            *serials = all;
+            *rows = unheard;
+            0
+        }
+        executions::Opening::Refused(fault) => fault,
+    }
+}
+
+// The day in the caller's memory.
+fn day_in(head: &[u64; 4], serials: &[u32; 128], rows: &[u64; 256]) -> Day
+    ensures { λ d. ⌜ d ≡ dayIn (now (head .entry)) (now (serials .entry)) (now (rows .entry)) ⌝ }
+{
+    let h = read_head(head);
+    let kind = h.kind;
+    let stopped = h.set;
+    let all = *serials;
+    let heard = *rows;
+    Day {
+        kind,
+        count: h.count,
+        serials: all,
+        stopped,
+        rows: heard,
+    }
+}
+
+// One event, of kind 1 a stop, of kind 2 a hearing: 12, 14, or 0.
+#[no_mangle]
+pub extern "C" fn gm_day_event(
+    head: &mut [u64; 4],
+    serials: &[u32; 128],
+    rows: &mut [u64; 256],
+    kind: u8,
+    place: usize,
+    other: usize,
+) -> u8
+    ensures { λ r. ⌜ r ≡ happenedHeld (now (head .entry)) (now (serials .entry)) (now (rows .entry)) (eventOf kind place other) .code ⌝ }
+    ensures { λ r. ⌜ now (head .exit) ≡ happenedHeld (now (head .entry)) (now (serials .entry)) (now (rows .entry)) (eventOf kind place other) .head ⌝ }
+    ensures { λ r. ⌜ now (rows .exit) ≡ happenedHeld (now (head .entry)) (now (serials .entry)) (now (rows .entry)) (eventOf kind place other) .rows ⌝ }
+{
+    let before = day_in(head, serials, rows);
+    let event = Event {
+        kind,
+        place: Place(place),
+        other: Place(other),
+    };
+    let happened = executions::happen(before, event);
+    let after = happened.day;
+    let stopped = after.stopped;
+    let heard = after.rows;
+    write_set(head, stopped);
+    *rows = heard;
+    happened.refusal
+}
+
+// Writes the record of one that has stopped into a lent buffer from a position on: 12, 14, 13, or 0 and where it ends.
+#[no_mangle]
+pub extern "C" fn gm_day_write(
+    head: &[u64; 4],
+    serials: &[u32; 128],
+    rows: &[u64; 256],
+    place: usize,
+    out: &mut [u8],
+    at: usize,
+) -> End
+    ensures { λ r. ⌜ r ≡ endOf (days.writtenOf (dayIn (now (head .entry)) (now (serials .entry)) (now (rows .entry))) place (now (out .entry)) at .answer) ⌝ }
+    ensures { λ r. ⌜ now (out .exit) ≡ days.writtenOf (dayIn (now (head .entry)) (now (serials .entry)) (now (rows .entry))) place (now (out .entry)) at .buffer ⌝ }
+{
+    let day = day_in(head, serials, rows);
+    let answer = executions::write(day, Place(place), out, at);
+    end_of(answer)
 }
