@@ -11,6 +11,7 @@ use Rattle.capi.specs.declared.Head.{Head}
 use Rattle.capi.specs.declared.End.{End}
 use Rattle.capi.specs.Boundary.{dayIn, withSet, endOf, happenedHeld}
 use Rattle.capi.proofs.Calls.{Says}
+use Rattle.capi.proofs.Writes.{Ends, ends}
 
 pub day-is : (head : List ℕ) (h : Head) → Says head h → (serials rows : List ℕ) → record { kind = h .kind; count = h .count; serials = serials; stopped = h .set; rows = rows } ≡ dayIn head serials rows
 unfolding dayIn
@@ -24,7 +25,5 @@ event-is head serials rows e d x after f g h =
     (ap (λ (x : Happened). x .refusal) is, (h ∙ ap (λ (x : Happened). withSet head (x .day .stopped)) is, ap (λ (x : Happened). x .day .rows) is))
 
 pub write-is : (head serials rows : List ℕ) (p : ℕ) (out : List ℕ) (at : ℕ) (d : Day) (a : Writing) (e : End) (after : List ℕ) → d ≡ dayIn head serials rows → e ≡ endOf a
-    → (a ≡ writtenOf d p out at .answer) × (after ≡ writtenOf d p out at .buffer)
-    → (e ≡ endOf (writtenOf (dayIn head serials rows) p out at .answer)) × (after ≡ writtenOf (dayIn head serials rows) p out at .buffer)
-write-is head serials rows p out at d a e after f g (i, j) =
-    (g ∙ ap endOf (i ∙ ap (λ (d : Day). writtenOf d p out at .answer) f), j ∙ ap (λ (d : Day). writtenOf d p out at .buffer) f)
+    → (a ≡ writtenOf d p out at .answer) × (after ≡ writtenOf d p out at .buffer) → Ends (writtenOf (dayIn head serials rows) p out at) e after
+write-is head serials rows p out at d a e after f g h = rw (← f) (ends (writtenOf d p out at) a e after g h)

@@ -6,3 +6,4 @@ pub mod Offers
 pub mod Readings
 pub mod Writes
 pub mod Days
+pub mod Plays

@@ -8,7 +8,6 @@ use borrow.Author.Tests.{ne-eqb}
 use Rattle.places.specs.Sets.{Places}
 use Rattle.places.specs.PlaceSets.{has}
 use Rattle.places.specs.declared.PlaceSet.{PlaceSet}
-use Rattle.histories.specs.declared.Kind.{Kind}
 use Rattle.histories.specs.declared.Kind.the-variants.{Full, Short}
 use Rattle.histories.specs.Rule as rule
 use Rattle.answers.specs.Views.{size, acceptedIn}
@@ -46,28 +45,27 @@ module _ (head : List ℕ) (h : Head) (says : Says head h) (serials rows : List 
     unfolding sizeOf acceptedOf
     back-written b n is all row e a after w = in-memory a after (write-back (partsOf h serials rows) p out at l b n is all row e a after w)
 
+-- ---- where it ends, as two words
+
+-- the end and the buffer are those of a writing
+abbrev pub Ends : Written → End → List ℕ → Type 0
+Ends w e after = (e ≡ endOf (w .answer)) × (after ≡ w .buffer)
+
+pub ends : (w : Written) (a : Writing) (e : End) (after : List ℕ) → e ≡ endOf a → (a ≡ w .answer) × (after ≡ w .buffer) → Ends w e after
+ends w a e after is (f, g) = (is ∙ ap endOf f, g)
+
 -- ---- a record from its parts
 
 module _ (kind own : ℕ) (roster : List ℕ) (M : Places) (out : List ℕ) (at : ℕ) where
-  abbrev Ends : Written → End → List ℕ → Type 0
-  Ends w e after = (e ≡ endOf (w .answer)) × (after ≡ w .buffer)
-
-  -- the end and the buffer are those of writing from parts
-  abbrev pub Lays : End → List ℕ → Type 0
-  Lays = Ends (writtenParts kind own roster M out at)
-
   module _ (a : Writing) (e : End) (after : List ℕ) (is : e ≡ endOf a) where
-    ends : (k : Kind) → (a ≡ written k own roster M out at .answer) × (after ≡ written k own roster M out at .buffer) → Ends (written k own roster M out at) e after
-    ends k (f, g) = (is ∙ ap endOf f, g)
-
-    pub lays-full : kind ≡ 1 → (a ≡ written Full own roster M out at .answer) × (after ≡ written Full own roster M out at .buffer) → Lays e after
+    pub lays-full : kind ≡ 1 → (a ≡ written Full own roster M out at .answer) × (after ≡ written Full own roster M out at .buffer) → Ends (writtenParts kind own roster M out at) e after
     unfolding writtenParts knownKind kindOf
-    lays-full k w = rw k (ends Full w)
+    lays-full k w = rw k (ends (written Full own roster M out at) a e after is w)
 
-    pub lays-short : kind ≡ 2 → (a ≡ written Short own roster M out at .answer) × (after ≡ written Short own roster M out at .buffer) → Lays e after
+    pub lays-short : kind ≡ 2 → (a ≡ written Short own roster M out at .answer) × (after ≡ written Short own roster M out at .buffer) → Ends (writtenParts kind own roster M out at) e after
     unfolding writtenParts knownKind kindOf
-    lays-short k w = rw k (ends Short w)
+    lays-short k w = rw k (ends (written Short own roster M out at) a e after is w)
 
-  pub lays-none : (kind ≡ 1 → ⊥) → (kind ≡ 2 → ⊥) → Lays (record { refusal = 2; next = 0 }) out
+  pub lays-none : (kind ≡ 1 → ⊥) → (kind ≡ 2 → ⊥) → Ends (writtenParts kind own roster M out at) (record { refusal = 2; next = 0 }) out
   unfolding writtenParts knownKind unwritten endOf
   lays-none a b = rw (ne-eqb kind 1 a, ne-eqb kind 2 b) (refl, refl)

@@ -36,8 +36,12 @@ use Rattle.executions.specs.declared.Day.{Day}
 use Rattle.executions.specs.declared.Event.{Event}
 use Rattle.executions.specs.declared.Opening as day
 use Rattle.executions.specs.declared.Opening.the-variants as B
-use Rattle.executions.specs.Contracts.{begun, happened}
+use Rattle.executions.specs.declared.Played.{Played}
+use Rattle.executions.specs.Contracts.{begun, happened, stepped, played}
 use Rattle.capi.specs.declared.End.{End}
+use Rattle.capi.specs.declared.DayNow.{DayNow}
+use Rattle.capi.specs.declared.EventNow.{EventNow}
+use Rattle.capi.specs.declared.PlayedNow.{PlayedNow}
 
 -- ---- a recovery, or a day, in the caller's memory
 
@@ -153,6 +157,35 @@ happenedHeld head serials rows e =
       serials = serials;
       rows = happened (dayIn head serials rows) e .day .rows;
     }
+
+-- ---- a list of events: the day goes in by value and comes back by value
+
+unfoldable pub dayOf : DayNow → Day
+dayOf d = dayIn (d .head) (d .serials) (d .rows)
+
+-- its words, serials and rows after it: who has stopped and who heard what are another day's
+unfoldable pub dayNow : DayNow → Day → DayNow
+dayNow d after = record { head = withSet (d .head) (after .stopped); serials = d .serials; rows = after .rows }
+
+unfoldable pub eventIn : EventNow → Event
+eventIn e = eventOf (e .kind) (e .place) (e .other)
+
+unfoldable pub eventsIn : List EventNow → List Event
+eventsIn [] = []
+eventsIn (e ∷ es) = eventIn e ∷ eventsIn es
+
+unfoldable pub playedAs : DayNow → Played → PlayedNow
+playedAs d p = record { count = p .count; refusal = p .refusal; day = dayNow d (p .day) }
+
+unfoldable pub playedNow : DayNow → List EventNow → PlayedNow
+playedNow d es = playedAs d (played (dayOf d) (eventsIn es))
+
+-- one event after those played
+unfoldable pub playedOf : PlayedNow → Played
+playedOf p = record { count = p .count; refusal = p .refusal; day = dayOf (p .day) }
+
+unfoldable pub steppedNow : PlayedNow → EventNow → PlayedNow
+steppedNow p e = playedAs (p .day) (stepped (playedOf p) (eventIn e))
 
 -- ---- a record that was read, as seven words: kind, own place, where the roster starts, its count, the mourned set, where the record ends
 

@@ -2,19 +2,22 @@
 // the places that are back, or have stopped), 128 serials, 256 words of rows. Nothing is kept between calls, and every input has an
 // answer: include/goatmonth.h says what a caller promises of its pointers. specs/Boundary.antt has the numbers of the answers.
 ghost use mathlib.Core.Path.{_≡_};
+ghost use mathlib.Core.Bool.{cond};
 ghost use mathlib.Core.List.{List, [], _∷_};
 ghost use Prim.Native.Nat.{ℕ, _≤_};
 ghost use lib.ListN.{length, take, getD};
+ghost use lib.Dec.{ltb};
 ghost use Rattle.places.specs.PlaceSets.{has, found};
 ghost use Rattle.rosters.specs.Rosters.{placeOf};
 ghost use Rattle.records.specs.Layout.{kindByte};
 ghost use Rattle.records.specs.Records.{reading, readingLone, rosterIs, copiable, copied};
 ghost use Rattle.recovery.specs.Contracts.{answered, asked, shown, checked, settledOf, unmournedOf, unmournedAbsentOf, unmournedCountOf, foundIn, writtenOf};
 ghost use Rattle.executions.specs.Contracts as days;
-ghost use Rattle.capi.specs.Boundary.{kindIn, setIn, recoveryIn, dayIn, setAt, eventOf, headOf, withSet, openedHeld, begunHeld, offeredHeld, happenedHeld, replyCode, askedCode, showingCode, checkedCode, yesCode, foundCode, endOf, wordsOf, readCode, readWords, writtenParts};
+ghost use Rattle.capi.specs.Boundary.{kindIn, setIn, recoveryIn, dayIn, setAt, eventOf, headOf, withSet, openedHeld, begunHeld, offeredHeld, happenedHeld, dayOf, dayNow, playedNow, steppedNow, replyCode, askedCode, showingCode, checkedCode, yesCode, foundCode, endOf, wordsOf, readCode, readWords, writtenParts};
 use answers::Answer;
 use executions::Day;
 use executions::Event;
+use executions::Played;
 use histories::Kind;
 use places::Found;
 use places::Place;
@@ -31,6 +34,30 @@ use shows::Showing;
 pub struct End {
     pub refusal: u64,
     pub next: u64,
+}
+
+// A day by value: its four words, its serials and its rows.
+#[repr(C)]
+pub struct DayNow {
+    pub head: [u64; 4],
+    pub serials: [u32; 128],
+    pub rows: [u64; 256],
+}
+
+// An event: of kind 1 `place` stops, of kind 2 `place` hears that `other` has stopped.
+#[repr(C)]
+pub struct EventNow {
+    pub kind: u64,
+    pub place: u64,
+    pub other: u64,
+}
+
+// What a list of events gives: how many were played, the refusal that ended the play, or 0, and the day after those played.
+#[repr(C)]
+pub struct PlayedNow {
+    pub count: u64,
+    pub refusal: u64,
+    pub day: DayNow,
 }
 
 // ---- the four words of a recovery or a day
@@ -598,4 +625,88 @@ pub extern "C" fn gm_day_write(
     let day = day_in(head, serials, rows);
     let answer = executions::write(day, Place(place), out, at);
     end_of(answer)
+}
+
+// ---- a list of events
+
+// A kind that no byte holds is as unknown as 0.
+fn kind_byte(kind: u64) -> u8
+    ensures { λ k. ⌜ k ≡ cond (ltb kind 256) kind 0 ⌝ }
+{
+    if kind < 256 {
+        return kind as u8;
+    }
+    0
+}
+
+fn day_of(d: DayNow) -> Day
+    ensures { λ r. ⌜ r ≡ dayOf d ⌝ }
+{
+    let head = d.head;
+    let serials = d.serials;
+    let rows = d.rows;
+    day_in(&head, &serials, &rows)
+}
+
+fn day_now(d: DayNow, after: Day) -> DayNow
+    ensures { λ r. ⌜ r ≡ dayNow d after ⌝ }
+{
+    let mut head = d.head;
+    let serials = d.serials;
+    let rows = after.rows;
+    let stopped = after.stopped;
+    write_set(&mut head, stopped);
+    DayNow {
+        head,
+        serials,
+        rows,
+    }
+}
+
+// One event after those played: after a refusal nothing more is played.
+fn day_step(p: PlayedNow, e: EventNow) -> PlayedNow
+    ensures { λ r. ⌜ r ≡ steppedNow p e ⌝ }
+{
+    if p.refusal != 0 {
+        return p;
+    }
+    let d = p.day;
+    let day = day_of(d);
+    let kind = kind_byte(e.kind);
+    let event = Event {
+        kind,
+        place: Place(e.place as usize),
+        other: Place(e.other as usize),
+    };
+    let before = Played {
+        count: p.count as usize,
+        refusal: 0,
+        day,
+    };
+    let played = executions::step(before, event);
+    let after = played.day;
+    let day = day_now(d, after);
+    PlayedNow {
+        count: played.count as u64,
+        refusal: played.refusal as u64,
+        day,
+    }
+}
+
+// The events in order, up to the first refusal.
+#[no_mangle]
+pub extern "C" fn gm_day_play(day: DayNow, events: &[EventNow]) -> PlayedNow
+    ensures { λ r. ⌜ r ≡ playedNow day (now (events .entry)) ⌝ }
+{
+    let mut p = PlayedNow {
+        count: 0,
+        refusal: 0,
+        day,
+    };
+    let mut at = 0;
+    while at < events.len() {
+        p = day_step(p, events[at]);
+        at += 1;
+    }
+    p
 }

@@ -1,7 +1,6 @@
 -- `capi::gm_write` meets its contract. Assumes nothing.
-use mathlib.Core.Path.{ap, _∙_}
 use borrow.Author.Needs.{needs}
-use Rattle.capi.specs.Boundary.{endOf}
+use Rattle.capi.proofs.Writes.{ends}
 use Rattle.capi.proofs.gm_write.Statement.{statement}
 use Rattle.capi.proofs.gm_write.Tie as tie
 
@@ -16,8 +15,8 @@ same-length c = search needs
 
 returns : tie.Need-returns
 returns c =
-    let e = c .before .before .before .write-back .ensures in
-    (c .end-of .ensures ∙ ap endOf (e .0), e .1)
+    let w = c .before .before .before in
+    ends _ _ _ _ (c .end-of .ensures) (w .write-back .ensures)
 
 pub gm-write-spec : {M : Type 1} → statement M
 gm-write-spec = tie.close (tie.spec write-back-requires end-of-requires same-length returns)

@@ -1,0 +1,15 @@
+-- `capi::day_now` meets its contract. Assumes nothing.
+use borrow.Author.Needs.{needs}
+use Rattle.capi.specs.Boundary.{dayNow}
+use Rattle.capi.proofs.day_now.Statement.{statement}
+use Rattle.capi.proofs.day_now.Tie as tie
+
+write-set-requires : tie.Need-write-set-requires
+write-set-requires c κs = search needs
+
+returns : tie.Need-returns
+unfolding dayNow
+returns c = rw (c .write-set .ensures)
+
+pub day-now-spec : {M : Type 1} → statement M
+day-now-spec = tie.close (tie.spec write-set-requires returns)
