@@ -1,17 +1,18 @@
 -- The head of a record at a position of the bytes, section by section: one law for each way that a section goes.
 -- Assumes nothing.
 use mathlib.Core.Path.{_≡_, refl, ap, _∙_}
-use mathlib.Core.Bool.{true, false}
+use mathlib.Core.Bool.{Bool, true, false, cond}
 use mathlib.Core.List.{List, []}
-use Prim.Native.Nat.{ℕ, zero, suc, _+_, _≤_, _<_}
+use Prim.Native.Nat.{ℕ, zero, suc, _+_, _*_, _≤_, _<_}
 use lib.Dec.{leb}
-use lib.ListN.{length, getD, drop}
+use lib.ListN.{length, getD, take, drop}
 use borrow.Author.Tests.{le-leb, lt-leb, ne-eqb}
 use Rattle.histories.specs.declared.Kind.{Kind}
 use Rattle.histories.specs.declared.Kind.the-variants.{Full, Short}
 use Rattle.rosters.specs.Rosters.{placeOf, holds}
+use Rattle.records.specs.declared.Heading.the-variants as H
 use Rattle.records.specs.Layout.{Parsed, got, refused, then, check, wordAt, knownKind, kindOf, kindSection, rosterSerials, rosterSection, Head, headSection}
-use Rattle.records.specs.Parts.{rosterAfter, ownAfter, coded}
+use Rattle.records.specs.Parts.{rosterAfter, ownAfter, coded, headOn, headOf, Rostered, HeadIn}
 use Rattle.records.proofs.Sections.{check-yes, check-no, byte-early, byte-got, serial-early, serial-zero, serial-got}
 
 pub coded-fault : {A : Type 0} (j : ℕ) (a : A) (s : List ℕ) → (j ≡ 0 → ⊥) → coded j a s ≡ refused j
@@ -56,6 +57,28 @@ module _ (k : Kind) (own : ℕ) where
   unfolding rosterAfter judge
   after s q e = ap (λ (z : Parsed (List ℕ)). then z judge) e
 
+  -- the own serial looked up on the first n of a list
+  module _ (b list : List ℕ) (at n : ℕ) where
+    on-head : judge (take n list) (drop (at + n * 4) b) ≡ headOf (headOn k own at n (take n list)) b list
+    unfolding judge headOn headOf check
+    on-head = go (holds own (take n list))
+      where
+        h : Head
+        h = record { kind = k; own = placeOf own (take n list); roster = take n list }
+
+        go : (t : Bool) → check t 6 (got h (drop (at + n * 4) b))
+            ≡ headOf (cond t (H.Found (record { kind = k; own = record { 0 = placeOf own (take n list) }; roster = at; count = n })) (H.Refused 6)) b list
+        go true = refl
+        go false = refl
+
+    pub on-in : Rostered b at n list → HeadIn (headOn k own at n (take n list)) b at list
+    unfolding headOn
+    on-in r = go (holds own (take n list))
+      where
+        go : (t : Bool) → HeadIn (cond t (H.Found (record { kind = k; own = record { 0 = placeOf own (take n list) }; roster = at; count = n })) (H.Refused 6)) b at list
+        go true = record { starts = refl; rostered = r }
+        go false = tt
+
   module _ (s : List ℕ) (p : ℕ) where
     pub after-early : length s ≤ p → rosterAfter k own (drop p s) ≡ refused 1
     unfolding then
@@ -77,19 +100,11 @@ module _ (k : Kind) (own : ℕ) where
           unfolding then
           after-fault z = after (drop p s) (refused j) (roster-counted s p h f m ∙ read ∙ coded-fault j r rest z)
 
-          module _ (z : j ≡ 0) where
-            judged : rosterAfter k own (drop p s) ≡ judge r rest
-            unfolding then
-            judged = after (drop p s) (got r rest) (roster-counted s p h f m ∙ read ∙ coded-none j r rest z)
-
-            pub after-strange : holds own r ≡ false → rosterAfter k own (drop p s) ≡ refused 6
-            unfolding judge
-            after-strange e = judged ∙ check-no _ 6 _ e
-
-            pub after-found : holds own r ≡ true → (place : ℕ) → placeOf own r ≡ place
-                → rosterAfter k own (drop p s) ≡ got (record { kind = k; own = place; roster = r }) rest
-            unfolding judge
-            after-found e place w = judged ∙ check-yes _ 6 _ e ∙ rw w
+        -- they were read, and are the first n of a list
+        pub after-read : getD s p 0 ≤ 128 → (n : ℕ) (list : List ℕ) → rosterSerials (getD s p 0) [] (drop (p + 1) s) ≡ got (take n list) (drop (p + 1 + n * 4) s)
+            → rosterAfter k own (drop p s) ≡ headOf (headOn k own (p + 1) n (take n list)) s list
+        unfolding then
+        after-read m n list e = after (drop p s) (got (take n list) (drop (p + 1 + n * 4) s)) (roster-counted s p h f m ∙ e) ∙ on-head s list (p + 1) n
 
 -- ---- the own serial, and the roster after it
 

@@ -1,69 +1,55 @@
--- A roster's serials judged all at once: of those that are there, the first zero and the first repeat, whichever comes first,
--- then that some are missing. The parser, which goes serial by serial, refuses by the same number. Assumes nothing.
+-- A roster's serials judged all at once: the first fault of those that are there, then that some are missing. The parser, which goes serial by serial, refuses by the same number. Assumes nothing.
 use mathlib.Core.Path.{_≡_, refl, sym, ap, _∙_}
 use mathlib.Core.Bool.{Bool, true, false, not}
 use mathlib.Core.List.{List, [], _∷_, _++_, append-assoc, append-nil}
 use Prim.Native.Nat.{ℕ, zero, suc, _+_, _*_, _≤_, _<_}
 use native.Mathlib.Omega.{arith}
 use lib.Dec.{eqb, ltb, leb·suc-suc}
-use lib.ListN.{length, take, drop, length-drop}
-use lib.Seq.{drop-drop}
-use borrow.Author.Tests.{lt-ltb, le-ltb, eqb-true, eqb-false, ltb-true, ltb-false}
-use Rattle.rosters.specs.Rosters.{placeOf, holds, firstRepeat}
-use Rattle.rosters.proofs.Laws.{place-hit, place-miss, repeat-at-most}
-use Rattle.records.specs.Layout.{Parsed, then, check, wordAt, serial, rosterSerials}
-use Rattle.records.specs.Records.{serials}
-use Rattle.records.specs.Parts.{coded, firstFault, rosterFault, Rostered}
+use lib.ListN.{length, getD, take, drop, length-drop}
+use lib.Seq.{drop-drop, take-all}
+use borrow.Author.Tests.{lt-ltb, le-ltb, eqb-true, eqb-false, ne-eqb, ltb-true, ltb-false}
+use Rattle.rosters.specs.Rosters.{placeOf, holds, firstRepeat, firstFault, rising}
+use Rattle.rosters.proofs.Laws.{past-holds, fault-nil, fault-zero, fault-twice, fault-new, fault-none, fault-some}
+use Rattle.rosters.proofs.Orders.{rising-zero, rising-repeat}
+use Rattle.records.specs.Layout.{Parsed, got, then, check, wordAt, serial, rosterSerials}
+use Rattle.records.specs.Records.{serials, rosterIs}
+use Rattle.records.specs.Parts.{coded, rosterFault, Rostered, Like}
 use Rattle.records.proofs.Sections.{check-yes, check-no, serial-early, serial-zero, serial-got, length-serials}
-use Rattle.records.proofs.Lists.{laid-take}
+use Rattle.records.proofs.Lists.{laid-take, is-the-list}
 
 -- ---- the first fault, by which test decides
 
-module _ (d z m n : ℕ) where
-  pub fault-5 : d < z → firstFault d z m n ≡ 5
-  unfolding firstFault
-  fault-5 h = rw (lt-ltb d z h)
+module _ (n : ℕ) (seen s : List ℕ) where
+  pub fault-there : (firstFault seen s ≡ 0 → ⊥) → rosterFault n seen s ≡ firstFault seen s
+  unfolding rosterFault
+  fault-there h = rw (ne-eqb (firstFault seen s) 0 h)
 
-  module _ (first : z ≤ d) where
-    pub fault-4 : z < m → firstFault d z m n ≡ 4
-    unfolding firstFault
-    fault-4 h = rw (le-ltb d z first, lt-ltb z m h)
+  module _ (none : firstFault seen s ≡ 0) where
+    pub fault-1 : length s < n → rosterFault n seen s ≡ 1
+    unfolding rosterFault
+    fault-1 h = rw (none, lt-ltb (length s) n h)
 
-    module _ (none : m ≤ z) where
-      pub fault-1 : m < n → firstFault d z m n ≡ 1
-      unfolding firstFault
-      fault-1 h = rw (le-ltb d z first, le-ltb z m none, lt-ltb m n h)
-
-      pub fault-0 : n ≤ m → firstFault d z m n ≡ 0
-      unfolding firstFault
-      fault-0 h = rw (le-ltb d z first, le-ltb z m none, le-ltb m n h)
-
-  fault-suc : firstFault (suc d) (suc z) (suc m) (suc n) ≡ firstFault d z m n
-  unfolding firstFault
-  fault-suc = rw (leb·suc-suc (suc d) z, leb·suc-suc (suc z) m, leb·suc-suc (suc m) n)
+    pub fault-0 : n ≤ length s → rosterFault n seen s ≡ 0
+    unfolding rosterFault
+    fault-0 h = rw (none, le-ltb (length s) n h)
 
 -- ---- by the first serial
 
 module _ (n : ℕ) (seen : List ℕ) (x : ℕ) (t : List ℕ) where
   rest-zero : x ≡ 0 → rosterFault (suc n) seen (x ∷ t) ≡ 4
-  unfolding rosterFault
-  rest-zero e = rw (place-hit 0 x t e) (fault-4 (firstRepeat seen (x ∷ t)) 0 (suc (length t)) (suc n) (omega arith) (omega arith))
+  rest-zero z =
+      let e : firstFault seen (x ∷ t) ≡ 4 = fault-zero seen x t z in
+      fault-there (suc n) seen (x ∷ t) (omega arith) ∙ e
 
-  rest-twice : (x ≡ 0 → ⊥) → holds x seen ≡ true → rosterFault (suc n) seen (x ∷ t) ≡ 5
-  unfolding rosterFault firstRepeat
-  rest-twice z e = rw (place-miss 0 x t z, e) (fault-5 0 (suc (placeOf 0 t)) (suc (length t)) (suc n) (omega arith))
+  module _ (z : x ≡ 0 → ⊥) where
+    rest-twice : holds x seen ≡ true → rosterFault (suc n) seen (x ∷ t) ≡ 5
+    rest-twice h =
+        let e : firstFault seen (x ∷ t) ≡ 5 = fault-twice seen x t z h in
+        fault-there (suc n) seen (x ∷ t) (omega arith) ∙ e
 
-  rest-later : (x ≡ 0 → ⊥) → holds x seen ≡ false → rosterFault (suc n) seen (x ∷ t) ≡ rosterFault n (seen ++ (x ∷ [])) t
-  unfolding rosterFault firstRepeat
-  rest-later z e = rw (place-miss 0 x t z, e) (fault-suc (firstRepeat (seen ++ (x ∷ [])) t) (placeOf 0 t) (length t) n)
-
-nothing-there : (seen : List ℕ) → rosterFault 0 seen [] ≡ 0
-unfolding rosterFault firstRepeat placeOf
-nothing-there seen = fault-0 0 0 0 0 (omega arith) (omega arith) (omega arith)
-
-some-missing : (n : ℕ) (seen : List ℕ) → rosterFault (suc n) seen [] ≡ 1
-unfolding rosterFault firstRepeat placeOf
-some-missing n seen = fault-1 0 0 0 (suc n) (omega arith) (omega arith) (omega arith)
+    rest-later : holds x seen ≡ false → rosterFault (suc n) seen (x ∷ t) ≡ rosterFault n (seen ++ (x ∷ [])) t
+    unfolding rosterFault
+    rest-later e = rw (fault-new seen x t z e, leb·suc-suc (suc (length t)) n)
 
 -- one serial that is there, and the parser after it
 next : ℕ → List ℕ → ℕ → List ℕ → Parsed (List ℕ)
@@ -91,9 +77,9 @@ module _ (n m : ℕ) (seen s : List ℕ) (l : 4 ≤ length s)
 pub roster-judged : (n m : ℕ) (seen s : List ℕ) → m ≤ n → m * 4 ≤ length s → (m < n → length s < m * 4 + 4)
     → rosterSerials n seen s ≡ coded (rosterFault n seen (serials m s)) (seen ++ serials n s) (drop (n * 4) s)
 unfolding rosterSerials serials next coded
-roster-judged zero zero seen s h l e = rw (nothing-there seen, append-nil seen)
+roster-judged zero zero seen s h l e = rw (fault-0 0 seen [] (fault-nil seen) (omega arith), append-nil seen)
 roster-judged zero (suc m) seen s h l e = absurd (omega arith)
-roster-judged (suc n) zero seen s h l e = serial-early s 0 (next n seen) (omega (arith, e (omega arith))) ∙ rw (some-missing n seen)
+roster-judged (suc n) zero seen s h l e = serial-early s 0 (next n seen) (omega (arith, e (omega arith))) ∙ rw (fault-1 (suc n) seen [] (fault-nil seen) (omega arith))
 roster-judged (suc n) (suc m) seen s h l e =
     one n m seen s (omega arith)
     (roster-judged n m (seen ++ (wordAt s 0 ∷ [])) (drop 4 s) (omega arith) (omega (arith, length-drop 4 s)) (λ k. omega (arith, length-drop 4 s, e (omega arith))))
@@ -107,18 +93,42 @@ judged-at b at n m h l e =
 
 -- no fault: all are there, and none stands twice
 pub faultless : (n : ℕ) (s : List ℕ) → length s ≤ n → rosterFault n [] s ≡ 0 → (length s ≡ n) × (firstRepeat [] s ≡ length s)
-unfolding rosterFault
-faultless n s h e = go (ltb (firstRepeat [] s) (placeOf 0 s)) (ltb (placeOf 0 s) (length s)) (ltb (length s) n) refl refl refl
+faultless n s h e = go (eqb (firstFault [] s) 0) (ltb (length s) n) refl refl
   where
-    go : (a b c : Bool) → ltb (firstRepeat [] s) (placeOf 0 s) ≡ a → ltb (placeOf 0 s) (length s) ≡ b → ltb (length s) n ≡ c → (length s ≡ n) × (firstRepeat [] s ≡ length s)
-    go true b c p q r = absurd (omega (arith, fault-5 (firstRepeat [] s) (placeOf 0 s) (length s) n (ltb-true _ _ p)))
-    go false true c p q r = absurd (omega (arith, fault-4 (firstRepeat [] s) (placeOf 0 s) (length s) n (ltb-false _ _ p) (ltb-true _ _ q)))
-    go false false true p q r = absurd (omega (arith, fault-1 (firstRepeat [] s) (placeOf 0 s) (length s) n (ltb-false _ _ p) (ltb-false _ _ q) (ltb-true _ _ r)))
-    go false false false p q r =
-        let i : placeOf 0 s ≤ firstRepeat [] s = ltb-false _ _ p in
-        let j : length s ≤ placeOf 0 s = ltb-false _ _ q in
-        let k : n ≤ length s = ltb-false _ _ r in
-        (omega arith, omega (arith, repeat-at-most [] s))
+    go : (a b : Bool) → eqb (firstFault [] s) 0 ≡ a → ltb (length s) n ≡ b → (length s ≡ n) × (firstRepeat [] s ≡ length s)
+    go false b p q = absurd (eqb-false (firstFault [] s) 0 p (sym (fault-there n [] s (eqb-false (firstFault [] s) 0 p)) ∙ e))
+    go true true p q = absurd (omega (arith, fault-1 n [] s (eqb-true (firstFault [] s) 0 p) (ltb-true _ _ q)))
+    go true false p q =
+        let m : n ≤ length s = ltb-false (length s) n q in
+        (omega arith, fault-none [] s (eqb-true (firstFault [] s) 0 p) .1)
+
+-- ---- the roster of a record, which is a list without zero and repeat
+
+-- all there, none 0, none twice
+sound : (s : List ℕ) → placeOf 0 s ≡ length s → firstRepeat [] s ≡ length s → rosterFault (length s) [] s ≡ 0
+sound s z d = fault-0 (length s) [] s (go (eqb (firstFault [] s) 0) refl) (omega arith)
+  where
+    go : (t : Bool) → eqb (firstFault [] s) 0 ≡ t → firstFault [] s ≡ 0
+    go true e = eqb-true (firstFault [] s) 0 e
+    go false e = absurd (omega (arith, d, fault-some [] s (eqb-false (firstFault [] s) 0 e) (past-holds 0 s (omega arith))))
+
+pub like-is : (b : List ℕ) (at n : ℕ) (list order : List ℕ) → at < length b → n ≡ getD b at 0 → 1 ≤ n → n ≤ 128
+    → rosterIs b (at + 1) n list ≡ true → rising list order ≡ true → Like b at list
+unfolding coded
+like-is b at n list order i c s f e r =
+    let w = is-the-list b (at + 1) n list e in
+    let l : length list ≡ n = ap length (sym (w .1)) ∙ length-serials n (drop (at + 1) b) in
+    let t : take n list ≡ list = take-all n list (omega arith) in
+    let none : rosterFault n [] list ≡ 0 = rw (← l) (sound list (rising-zero list order r) (rising-repeat list order r)) in
+    let parsed : rosterSerials n [] (drop (at + 1) b) ≡ got list (drop (at + 1 + n * 4) b) =
+    judged-at b (at + 1) n n (omega arith) (w .0) (λ k. absurd (omega arith)) ∙ rw (w .1, none) in
+    record {
+      inside = i;
+      some = rw (← c) s;
+      few = rw (← c) f;
+      parsed = rw (← c, l, t) parsed;
+      rostered = rw l (record { there = w .0; few = f; long = rw t l; single = rw t (rising-repeat list order r) });
+    }
 
 -- ---- the roster of a record, decoded into the front of a list
 

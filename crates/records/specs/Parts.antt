@@ -1,15 +1,17 @@
 -- The reader and the writer in their steps: what the contracts of the inner functions cite. No public contract cites this file.
 -- Assumes nothing.
 use mathlib.Core.Path.{_≡_}
-use mathlib.Core.Bool.{cond}
+use mathlib.Core.Bool.{Bool, true, cond, _&&_}
 use mathlib.Core.List.{List, [], _∷_, _++_}
-use Prim.Native.Nat.{ℕ, zero, suc, _+_, _*_, _≤_}
-use lib.ListN.{length, take, drop}
-use lib.Dec.{ltb}
+use Prim.Native.Nat.{ℕ, zero, suc, _+_, _-_, _*_, _≤_, _<_}
+use lib.ListN.{length, getD, take, drop}
+use lib.Dec.{eqb, ltb}
 use Rattle.places.specs.Sets.{Places}
 use Rattle.places.specs.PlaceSets.{has, Words}
 use Rattle.histories.specs.declared.Kind.{Kind}
-use Rattle.rosters.specs.Rosters.{placeOf, holds, firstRepeat}
+use Rattle.rosters.specs.Rosters.{placeOf, holds, firstRepeat, firstFault}
+use Rattle.records.specs.declared.Owner.{Owner}
+use Rattle.records.specs.declared.Owner.the-variants as O
 use Rattle.records.specs.declared.Top.{Top}
 use Rattle.records.specs.declared.Heading.{Heading}
 use Rattle.records.specs.declared.Heading.the-variants as H
@@ -17,7 +19,7 @@ use Rattle.records.specs.declared.Mourned.{Mourned}
 use Rattle.records.specs.declared.Mourned.the-variants as M
 use Rattle.records.specs.declared.Tail.{Tail}
 use Rattle.records.specs.declared.Tail.the-variants as T
-use Rattle.records.specs.Layout.{Parsed, got, refused, then, check, serial, rosterSection, Head, Stored, layout}
+use Rattle.records.specs.Layout.{Parsed, got, refused, then, check, wordAt, serial, rosterSerials, rosterSection, Head, Stored, layout}
 
 -- ---- the head, by what was read before
 
@@ -30,19 +32,28 @@ rosterAfter k own s =
 unfoldable pub ownAfter : Kind → List ℕ → Parsed Head
 ownAfter k s = then (serial s) (λ own s₁. rosterAfter k own s₁)
 
+-- the head by its first two sections, and the bytes after them
+unfoldable pub ownerOf : Owner → List ℕ → Parsed Head
+ownerOf (O.Of k own) s = rosterAfter k (own .0) s
+ownerOf (O.Refused j) s = refused j
+
+abbrev pub OwnerIn : Owner → ℕ → ℕ → Type 0
+OwnerIn (O.Of k own) end all = end ≤ all
+OwnerIn (O.Refused j) end all = Unit {0}
+
 -- a section by a fault's number: 0 is none
 unfoldable pub coded : {A : Type 0} → ℕ → A → List ℕ → Parsed A
 coded zero a s = got a s
 coded (suc j) a s = refused (suc j)
 
--- the first fault of n serials, of which m are there, with the first repeat at d and the first zero at z (at m where there is
--- none): whichever comes first, and then that some are missing
-unfoldable pub firstFault : ℕ → ℕ → ℕ → ℕ → ℕ
-firstFault d z m n = cond (ltb d z) 5 (cond (ltb z m) 4 (cond (ltb m n) 1 0))
-
--- of the serials s that are there, with those seen earlier
+-- the first fault of a roster of n serials, of which s are there, after those seen earlier; 1 where they have none and some are
+-- missing
 unfoldable pub rosterFault : ℕ → List ℕ → List ℕ → ℕ
-rosterFault n seen s = firstFault (firstRepeat seen s) (placeOf 0 s) (length s) n
+rosterFault n seen s = cond (eqb (firstFault seen s) 0) (cond (ltb (length s) n) 1 0) (firstFault seen s)
+
+-- the head of a record whose roster r, of n serials, stands at a position: the own serial is looked up on it
+unfoldable pub headOn : Kind → ℕ → ℕ → ℕ → List ℕ → Heading
+headOn k own at n r = cond (holds own r) (H.Found (record { kind = k; own = record { 0 = placeOf own r }; roster = at; count = n })) (H.Refused 6)
 
 -- what a head that was found says of the bytes; its roster stands at the front of the list
 unfoldable pub headOf : Heading → List ℕ → List ℕ → Parsed Head
@@ -65,6 +76,14 @@ abbrev pub HeadIn : Heading → List ℕ → ℕ → List ℕ → Type 0
 HeadIn (H.Found h) b at list = Within h b at list
 HeadIn (H.Refused j) b at list = Unit {0}
 
+-- the roster's section at a position is of this list, and without fault
+pub record Like (b : List ℕ) (at : ℕ) (list : List ℕ) : Type 0 where
+  pub inside : at < length b
+  pub some : 1 ≤ getD b at 0
+  pub few : getD b at 0 ≤ 128
+  pub parsed : rosterSerials (getD b at 0) [] (drop (at + 1) b) ≡ got (take (length list) list) (drop (at + 1 + length list * 4) b)
+  pub rostered : Rostered b (at + 1) (length list) list
+
 -- ---- the mourned section
 
 unfoldable pub mournedOf : Mourned → List ℕ → Parsed Places
@@ -82,6 +101,17 @@ tailOf (T.Refused j) b = refused j
 abbrev pub TailIn : Tail → ℕ → Type 0
 TailIn (T.End m next) all = (next ≤ all) × Words m
 TailIn (T.Refused j) all = Unit {0}
+
+-- ---- a roster in bytes, and a list
+
+-- the k serials from a position on are those of a list from i on
+unfoldable pub alike : ℕ → List ℕ → ℕ → List ℕ → ℕ → Bool
+alike zero b at list i = true
+alike (suc k) b at list i = eqb (wordAt b at) (getD list i 0) && alike k b (at + 4) list (i + 1)
+
+-- of the serials that start at a position, those from i on are the list's
+unfoldable pub alikeFrom : ℕ → List ℕ → ℕ → List ℕ → Bool
+alikeFrom i b at list = alike (length list - i) b (at + i * 4) list i
 
 -- ---- the writer
 

@@ -4,13 +4,13 @@ ghost use mathlib.Core.Bool.{Bool, true, cond, _&&_};
 ghost use mathlib.Core.List.{[], _∷_, _++_};
 ghost use Prim.Native.Nat.{ℕ, _+_, _*_, _≤_, _<_};
 ghost use lib.Dec.{eqb};
-ghost use lib.ListN.{length, take, drop};
+ghost use lib.ListN.{length, getD, take, drop};
 ghost use Rattle.places.specs.Sets.{nothing, count};
-ghost use Rattle.places.specs.PlaceSets.{has, found};
+ghost use Rattle.places.specs.PlaceSets.{has};
 ghost use Rattle.rosters.specs.Rosters.{placeOf, firstRepeat};
 ghost use Rattle.records.specs.Layout.{wordAt, rosterSerials, headSection, mournedSerials, mournedSection, kindByte, serialBytes, serialsBytes, chosen};
 ghost use Rattle.records.specs.Records.{reading, readingLone, serials, sameList, rosterThere, rosterIs, copiable, copied, written};
-ghost use Rattle.records.specs.Parts.{rosterAfter, ownAfter, coded, rosterFault, headOf, Rostered, HeadIn, mournedOf, MournedIn, tailOf, TailIn, front, recordBytes};
+ghost use Rattle.records.specs.Parts.{rosterAfter, ownAfter, ownerOf, OwnerIn, coded, rosterFault, headOn, headOf, Rostered, HeadIn, Like, mournedOf, MournedIn, tailOf, TailIn, alike, alikeFrom, front, recordBytes};
 use histories::Kind;
 use places::Found;
 use places::Place;
@@ -36,6 +36,12 @@ pub enum Reading {
 // What the writer says: where the record ends, or the refusal.
 pub enum Writing {
     Next(usize),
+    Refused(u8),
+}
+
+// Whose record it is: its kind and its own serial.
+enum Owner {
+    Of(Kind, Serial),
     Refused(u8),
 }
 
@@ -123,29 +129,14 @@ fn decode(bytes: &[u8], at: usize, n: usize, list: &mut [u32])
 
 // ---- reading the head
 
-// The first position of serial 0, or the list's length.
-fn first_zero(list: &[u32]) -> usize
-    ensures { λ r. ⌜ r ≡ placeOf 0 (now (list .entry)) ⌝ }
-{
-    let Found::At(place) = rosters::find(list, Serial(0)) else {
-        return list.len();
-    };
-    place.0
-}
-
 // The first fault of a roster of `count` serials, of which the first m of the list are there, or 0.
 fn roster_fault(list: &[u32], m: usize, count: usize) -> u8
     requires { ⌜ m ≤ length (now list) ⌝ }
     ensures { λ r. ⌜ r ≡ rosterFault count [] (take m (now (list .entry))) ⌝ }
 {
-    let there = &list[..m];
-    let zero = first_zero(there);
-    let repeat = rosters::first_repeat(there);
-    if repeat < zero {
-        return 5;
-    }
-    if zero < m {
-        return 4;
+    let first = rosters::first_fault(&list[..m]);
+    if first != 0 {
+        return first;
     }
     if m < count {
         return 1;
@@ -153,12 +144,20 @@ fn roster_fault(list: &[u32], m: usize, count: usize) -> u8
     0
 }
 
-// The place of a serial among the first n of a list.
-fn find_on(list: &[u32], n: usize, x: Serial) -> Found
+// The head of a record whose roster, the first n of a list, stands at a position: its own serial is looked up there.
+fn on_roster(kind: Kind, own: Serial, roster: usize, list: &[u32], n: usize) -> Heading
     requires { ⌜ n ≤ length (now list) ⌝ }
-    ensures { λ r. ⌜ r ≡ found (length (take n (now (list .entry)))) (placeOf (x .0) (take n (now (list .entry)))) ⌝ }
+    ensures { λ r. ⌜ r ≡ headOn kind (own .0) roster n (take n (now (list .entry))) ⌝ }
 {
-    rosters::find(&list[..n], x)
+    let Found::At(place) = rosters::find(&list[..n], own) else {
+        return Heading::Refused(6);
+    };
+    Heading::Found(Top {
+        kind,
+        own: place,
+        roster,
+        count: n,
+    })
 }
 
 // The serials of a roster of `count` from a position on, into the front of the list: 0, or the first fault.
@@ -193,31 +192,39 @@ fn head_roster(bytes: &[u8], at: usize, kind: Kind, own: Serial, list: &mut [u32
     if fault != 0 {
         return Heading::Refused(fault);
     }
-    let Found::At(place) = find_on(list, n, own) else {
-        return Heading::Refused(6);
-    };
-    Heading::Found(Top {
-        kind,
-        own: place,
-        roster: at + 1,
-        count: n,
-    })
+    on_roster(kind, own, at + 1, list, n)
 }
 
-// The own serial at a position, and the roster after it.
-fn head_own(bytes: &[u8], at: usize, kind: Kind, list: &mut [u32; 128]) -> Heading
+// The own serial at a position, of a record whose kind is known.
+fn read_own(bytes: &[u8], at: usize, kind: Kind) -> Owner
     requires { ⌜ at ≤ length (now bytes) ⌝ }
-    ensures { λ r. ⌜ ownAfter kind (drop at (now (bytes .entry))) ≡ headOf r (now (bytes .entry)) (now (list .exit)) ⌝ }
-    ensures { λ r. ⌜ HeadIn r (now (bytes .entry)) (at + 5) (now (list .exit)) ⌝ }
+    ensures { λ r. ⌜ ownAfter kind (drop at (now (bytes .entry))) ≡ ownerOf r (drop (at + 4) (now (bytes .entry))) ⌝ }
+    ensures { λ r. ⌜ OwnerIn r (at + 4) (length (now (bytes .entry))) ⌝ }
 {
     if bytes.len() - at < 4 {
-        return Heading::Refused(1);
+        return Owner::Refused(1);
     }
     let own = serial_at(bytes, at);
     if own.0 == 0 {
-        return Heading::Refused(4);
+        return Owner::Refused(4);
     }
-    head_roster(bytes, at + 4, kind, own, list)
+    Owner::Of(kind, own)
+}
+
+// The kind and the own serial of the record that starts at a position: its first five bytes.
+fn read_owner(bytes: &[u8], at: usize) -> Owner
+    ensures { λ r. ⌜ headSection (drop at (now (bytes .entry))) ≡ ownerOf r (drop (at + 5) (now (bytes .entry))) ⌝ }
+    ensures { λ r. ⌜ OwnerIn r (at + 5) (length (now (bytes .entry))) ⌝ }
+{
+    if bytes.len() <= at {
+        return Owner::Refused(1);
+    }
+    let kind = bytes[at];
+    match kind {
+        1 => read_own(bytes, at + 1, Kind::Full),
+        2 => read_own(bytes, at + 1, Kind::Short),
+        0 | 3..=255 => Owner::Refused(2),
+    }
 }
 
 // Reads the record that starts at a position as far as its roster's end; the roster's serials go into the front of the list.
@@ -225,14 +232,9 @@ fn read_head(bytes: &[u8], at: usize, list: &mut [u32; 128]) -> Heading
     ensures { λ r. ⌜ headSection (drop at (now (bytes .entry))) ≡ headOf r (now (bytes .entry)) (now (list .exit)) ⌝ }
     ensures { λ r. ⌜ HeadIn r (now (bytes .entry)) (at + 6) (now (list .exit)) ⌝ }
 {
-    if bytes.len() <= at {
-        return Heading::Refused(1);
-    }
-    let kind = bytes[at];
-    match kind {
-        1 => head_own(bytes, at + 1, Kind::Full, list),
-        2 => head_own(bytes, at + 1, Kind::Short, list),
-        0 | 3..=255 => Heading::Refused(2),
+    match read_owner(bytes, at) {
+        Owner::Refused(fault) => Heading::Refused(fault),
+        Owner::Of(kind, own) => head_roster(bytes, at + 5, kind, own, list),
     }
 }
 
@@ -296,18 +298,19 @@ fn read_tail(bytes: &[u8], at: usize, roster: &[u32]) -> Tail
 
 // ---- reading
 
-// Reads the record that starts at a position; more may follow it.
-pub fn read(bytes: &[u8], at: usize) -> Reading
+// The record that starts at a position, its head read and its roster at the front of the list.
+fn read_rest(bytes: &[u8], at: usize, head: Heading, list: &[u32]) -> Reading
+    requires { ⌜ headSection (drop at (now bytes)) ≡ headOf head (now bytes) (now list) ⌝ }
+    requires { ⌜ HeadIn head (now bytes) (at + 6) (now list) ⌝ }
     ensures { λ r. ⌜ r ≡ reading (now (bytes .entry)) at ⌝ }
 {
-    let mut list = [0u32; 128];
-    match read_head(bytes, at, &mut list) {
+    match head {
         Heading::Refused(fault) => Reading::Refused(fault),
-        Heading::Found(head) => {
-            let kind = head.kind;
-            let own = head.own;
-            let roster = head.roster;
-            let count = head.count;
+        Heading::Found(top) => {
+            let kind = top.kind;
+            let own = top.own;
+            let roster = top.roster;
+            let count = top.count;
             match read_tail(bytes, roster + count * 4, &list[..count]) {
                 Tail::Refused(fault) => Reading::Refused(fault),
                 Tail::End(mourned, next) => Reading::Read(Record {
@@ -319,6 +322,58 @@ pub fn read(bytes: &[u8], at: usize) -> Reading
                     next,
                 }),
             }
+        }
+    }
+}
+
+// The record that starts at a position; its roster goes into the front of the list.
+fn read_into(bytes: &[u8], at: usize, list: &mut [u32; 128]) -> Reading
+    ensures { λ r. ⌜ r ≡ reading (now (bytes .entry)) at ⌝ }
+{
+    let head = read_head(bytes, at, list);
+    read_rest(bytes, at, head, list)
+}
+
+// Reads the record that starts at a position; more may follow it.
+pub fn read(bytes: &[u8], at: usize) -> Reading
+    ensures { λ r. ⌜ r ≡ reading (now (bytes .entry)) at ⌝ }
+{
+    let mut list = [0u32; 128];
+    read_into(bytes, at, &mut list)
+}
+
+// Whether the roster's section at a position is of this list, which an order of its places shows to be without fault.
+fn is_like(bytes: &[u8], at: usize, list: &[u32], order: &[u8]) -> bool
+    ensures { λ r. ⌜ (r ≡ true → Like (now (bytes .entry)) at (now (list .entry))) ⌝ }
+{
+    if bytes.len() <= at {
+        return false;
+    }
+    let n = bytes[at] as usize;
+    if n < 1 {
+        return false;
+    }
+    if 128 < n {
+        return false;
+    }
+    if !roster_is(bytes, at + 1, n, list) {
+        return false;
+    }
+    rosters::rises(list, order)
+}
+
+// The same as `read`, and cheap where the record's roster is this list and the list's serials rise in this order.
+pub fn read_like(bytes: &[u8], at: usize, list: &[u32], order: &[u8]) -> Reading
+    ensures { λ r. ⌜ r ≡ reading (now (bytes .entry)) at ⌝ }
+{
+    match read_owner(bytes, at) {
+        Owner::Refused(fault) => Reading::Refused(fault),
+        Owner::Of(kind, own) => {
+            if !is_like(bytes, at + 5, list, order) {
+                return read(bytes, at);
+            }
+            let head = on_roster(kind, own, at + 6, list, list.len());
+            read_rest(bytes, at, head, list)
         }
     }
 }
@@ -340,26 +395,75 @@ pub fn read_lone(bytes: &[u8]) -> Reading
 
 // ---- a roster in bytes, and a list
 
-// One more serial compared: a function of its own, so that `same_serials` has no branch.
+// One more serial compared: a function of its own, so that `same_last` has no branch.
 fn also(had: bool, x: u32, y: u32) -> bool
     ensures { λ r. ⌜ r ≡ had && eqb x y ⌝ }
 {
     had & (x == y)
 }
 
-// Whether the serials from a position on are the list's, as many as it has. The loop has no early end, so that it runs on vectors.
-fn same_serials(bytes: &[u8], at: usize, list: &[u32]) -> bool
+// Whether the serials from i on are the list's, of those that start at a position.
+fn same_last(bytes: &[u8], at: usize, list: &[u32], from: usize) -> bool
     requires { ⌜ at + length (now list) * 4 ≤ length (now bytes) ⌝ }
-    ensures { λ r. ⌜ r ≡ sameList (serials (length (now (list .entry))) (drop at (now (bytes .entry)))) (now (list .entry)) ⌝ }
+    requires { ⌜ from ≤ length (now list) ⌝ }
+    ensures { λ r. ⌜ r ≡ alikeFrom from (now (bytes .entry)) at (now (list .entry)) ⌝ }
 {
     let mut same = true;
-    let mut i = 0;
+    let mut i = from;
     while i < list.len() {
         let x = serial_at(bytes, at + i * 4);
         same = also(same, x.0, list[i]);
         i += 1;
     }
     same
+}
+
+// Whether the serial at a position is the list's at i.
+fn same_one(bytes: &[u8], at: usize, list: &[u32], i: usize) -> bool
+    requires { ⌜ at + 4 ≤ length (now bytes) ⌝ }
+    requires { ⌜ i < length (now list) ⌝ }
+    ensures { λ r. ⌜ r ≡ eqb (wordAt (now (bytes .entry)) at) (getD (now (list .entry)) i 0) ⌝ }
+{
+    let x = serial_at(bytes, at);
+    x.0 == list[i]
+}
+
+// Whether the four serials from a position on are the list's from i on.
+fn same_four(bytes: &[u8], at: usize, list: &[u32], i: usize) -> bool
+    requires { ⌜ at + 16 ≤ length (now bytes) ⌝ }
+    requires { ⌜ i + 4 ≤ length (now list) ⌝ }
+    ensures { λ r. ⌜ r ≡ alike 4 (now (bytes .entry)) at (now (list .entry)) i ⌝ }
+{
+    let a = same_one(bytes, at, list, i);
+    let b = same_one(bytes, at + 4, list, i + 1);
+    let c = same_one(bytes, at + 8, list, i + 2);
+    let d = same_one(bytes, at + 12, list, i + 3);
+    a & b & c & d
+}
+
+// Whether the serials from a position on are the list's, as many as it has. Sixteen at a turn, so that the loop's own steps weigh little.
+fn same_serials(bytes: &[u8], at: usize, list: &[u32]) -> bool
+    requires { ⌜ at + length (now list) * 4 ≤ length (now bytes) ⌝ }
+    ensures { λ r. ⌜ r ≡ sameList (serials (length (now (list .entry))) (drop at (now (bytes .entry)))) (now (list .entry)) ⌝ }
+{
+    let mut i = 0;
+    while 16 <= list.len() - i {
+        let p = at + i * 4;
+        if !same_four(bytes, p, list, i) {
+            return false;
+        }
+        if !same_four(bytes, p + 16, list, i + 4) {
+            return false;
+        }
+        if !same_four(bytes, p + 32, list, i + 8) {
+            return false;
+        }
+        if !same_four(bytes, p + 48, list, i + 12) {
+            return false;
+        }
+        i += 16;
+    }
+    same_last(bytes, at, list, i)
 }
 
 // Whether the `count` serials from a position on are all there and are this list, order included.

@@ -46,8 +46,9 @@ fn opened(name: &[u8], list: &[u32]) {
     say::listed(name, rosters::check(list));
 }
 
-fn repeated(name: &[u8], list: &[u32]) {
-    say::count(name, rosters::first_repeat(list));
+fn faulty(name: &[u8], list: &[u32]) {
+    let fault = rosters::first_fault(list);
+    say::count(name, fault as usize);
 }
 
 fn sought(name: &[u8], list: &[u32], x: u32) {
@@ -86,15 +87,58 @@ pub fn longer() {
     opened(b"1 to 127, and 0", &full);
 }
 
-// Where a serial stands twice.
-pub fn repeats() {
+// The first fault along a list.
+pub fn faults() {
     let list = [7u32, 9, 12, 9, 7];
-    repeated(b"first repeat of 7 9 12 9 7", &list);
-    repeated(b"first repeat of 7 9 12", &list[..3]);
-    repeated(b"first repeat of nothing", &list[..0]);
-    let alike = [7u32, 1604, 4188, 5785, 8369, 10953, 12550, 4188];
-    repeated(b"first repeat of eight with one mark", &alike);
-    repeated(b"first repeat of seven with one mark", &alike[..7]);
+    faulty(b"first fault of 7 9 12 9 7", &list);
+    faulty(b"first fault of 7 9 12", &list[..3]);
+    faulty(b"first fault of nothing", &list[..0]);
+    let mixed = [7u32, 7, 0, 0];
+    faulty(b"first fault of 7 7 0", &mixed[..3]);
+    faulty(b"first fault of 7 0 0", &mixed[1..]);
+    faulty(b"first fault of 0 0", &mixed[2..]);
+}
+
+// The same where every serial has the mark of the first.
+pub fn faults_marked() {
+    let alike = [
+        7u32,
+        1604,
+        4188,
+        5785,
+        8369,
+        10953,
+        12550,
+        15134,
+        16731,
+        4188,
+    ];
+    faulty(b"first fault of nine with one mark", &alike[..9]);
+    faulty(b"first fault of ten with one mark", &alike);
+}
+
+// The same where a serial is compared with 16 at a time: it is the first of them, the last, or behind them.
+pub fn faults_of_twenty() {
+    let mut list = [0u32; 20];
+    fill(&mut list, 1);
+    faulty(b"first fault of 1 to 20", &list);
+    list[19] = 1;
+    faulty(b"first fault of 1 to 19, and 1", &list);
+    list[19] = 16;
+    faulty(b"first fault of 1 to 19, and 16", &list);
+    list[19] = 17;
+    faulty(b"first fault of 1 to 19, and 17", &list);
+    list[18] = 0;
+    faulty(b"first fault of 1 to 18, 0, and 17", &list);
+}
+
+// The same for more serials than a roster has.
+pub fn faults_of_many() {
+    let mut list = [0u32; 300];
+    fill(&mut list, 1);
+    faulty(b"first fault of 1 to 300", &list);
+    list[299] = 17;
+    faulty(b"first fault of 1 to 299, and 17", &list);
 }
 
 // Finding a serial from the front, and from a place on first.

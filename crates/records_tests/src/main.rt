@@ -20,7 +20,10 @@ fn main() {
     say::text(b"-- Lists of serials\n");
     lists::opening();
     lists::longer();
-    lists::repeats();
+    lists::faults();
+    lists::faults_marked();
+    lists::faults_of_twenty();
+    lists::faults_of_many();
     lists::finding();
     lists::alike();
     say::text(b"-- Writing\n");

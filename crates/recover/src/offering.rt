@@ -41,6 +41,30 @@ fn opened_by(bytes: &[u8], at: usize, x: Record) -> Recovery
     opened.recovery
 }
 
+// The order of a recovery's places in which its serials rise.
+fn order_of(serials: &[u32], count: usize) -> [u8; 128] {
+    if serials.len() < count {
+        return rosters::order(serials);
+    }
+    rosters::order(&serials[..count])
+}
+
+// Reads the record at a position: most often its roster is the recovery's.
+fn read_next<'a>(
+    bytes: &[u8],
+    at: usize,
+    serials: &'a [u32],
+    count: usize,
+    order: &'a [u8; 128],
+) -> Reading
+    ensures { λ r. ⌜ r ≡ reading (now (bytes .entry)) at ⌝ }
+{
+    if serials.len() < count {
+        return records::read(bytes, at);
+    }
+    records::read_like(bytes, at, &serials[..count], order)
+}
+
 // The fault of a record that cannot be read, 0 where it can.
 fn fault_of(got: Reading) -> u8 {
     match got {
@@ -64,6 +88,7 @@ pub fn offer_all(input: &mut [u8], out: &mut [u8]) -> Finished
     ensures { λ r. ⌜ r .used ≤ length (now (out .entry)) ⌝ }
 {
     let mut recovery = unopened();
+    let mut order = [0u8; 128];
     let mut w = window::start();
     let mut used = 0;
     let mut number = 0u64;
@@ -75,7 +100,13 @@ pub fn offer_all(input: &mut [u8], out: &mut [u8]) -> Finished
             break;
         }
         number += 1;
-        let got = records::read(&input[..have], at);
+        let got = read_next(
+            &input[..have],
+            at,
+            &recovery.serials,
+            recovery.count,
+            &order,
+        );
         let Reading::Read(x) = got else {
             let reply = Reply::Refused(fault_of(got));
             used = output::say_record(out, used, number, reply);
@@ -84,6 +115,7 @@ pub fn offer_all(input: &mut [u8], out: &mut [u8]) -> Finished
         // one that cannot be read ends the reading, so the first that can is record 1
         if number == 1 {
             recovery = opened_by(&input[..have], at, x);
+            order = order_of(&recovery.serials, recovery.count);
         }
         let kind = recovery.kind;
         let returned = recovery.returned;

@@ -1,5 +1,5 @@
 -- Facts that the steps cite: of two kinds, lists, rows and buffers, and of a record that was read. Assumes nothing.
-use mathlib.Core.Path.{_≡_, refl, sym, ap, ap₂, _∙_, fun-ext}
+use mathlib.Core.Path.{_≡_, refl, sym, ap, _∙_, fun-ext}
 use mathlib.Core.Bool.{true, false, _&&_}
 use mathlib.Core.List.{List, [], _∷_, _++_}
 use Prim.Native.Nat.{ℕ, _+_, _*_, _<_, _≤_}
@@ -7,8 +7,8 @@ use native.Mathlib.Omega.{arith}
 use native.Mathlib.Decide.{decLt}
 use lib.ListN.{length, take, drop}
 use lib.Seq.{take-at, drop-drop, drop-append-seam, length-take-le}
-use lib.Dec.{eqb, leb, ltb}
-use borrow.Author.Tests.{eqb-true, ltb-true, leb-true, le-leb}
+use lib.Dec.{leb, ltb}
+use borrow.Author.Tests.{ltb-true, leb-true, le-leb}
 use Rattle.places.specs.Sets.{Places, any, same}
 use Rattle.places.proofs.Booleans.{clash, is-false, and-intro, and-left, and-right, eqb-self}
 use Rattle.places.proofs.Tests.{any-elim, any-intro, same-elim}
@@ -36,14 +36,6 @@ pub same-kind-self : (a : Kind) → sameKind a a ≡ true
 unfolding sameKind
 same-kind-self Full = refl
 same-kind-self Short = refl
-
-pub same-list-elim : (a b : List ℕ) → sameList a b ≡ true → a ≡ b
-unfolding sameList
-same-list-elim [] [] e = refl
-same-list-elim [] (y ∷ ys) e = clash e refl
-same-list-elim (x ∷ xs) [] e = clash e refl
-same-list-elim (x ∷ xs) (y ∷ ys) e =
-    ap₂ (λ (z : ℕ) (l : List ℕ). z ∷ l) (eqb-true x y (and-left (eqb x y) (sameList xs ys) e)) (same-list-elim xs ys (and-right (eqb x y) (sameList xs ys) e))
 
 pub same-list-self : (a : List ℕ) → sameList a a ≡ true
 unfolding sameList

@@ -4,7 +4,7 @@ use mathlib.Core.Path.{_≡_, refl, sym, ap, _∙_}
 use mathlib.Core.Bool.{Bool, true, false, cond, _||_}
 use mathlib.Core.List.{List, [], _∷_, _++_, append-assoc, append-nil}
 use mathlib.Core.Logic.{_⊎_, inl, inr, _↔_}
-use Prim.Native.Nat.{ℕ, zero, suc, _+_, _≤_, _<_}
+use Prim.Native.Nat.{ℕ, zero, suc, _+_, _-_, _≤_, _<_}
 use native.Mathlib.Nat.{add-zero, le-of-suc-le-suc}
 use native.Mathlib.Numerals.{add-one}
 use native.Mathlib.Omega.{arith}
@@ -20,7 +20,7 @@ use Rattle.places.specs.declared.Found.{Found}
 use Rattle.places.specs.declared.Found.the-variants.{At, Nothing}
 use Rattle.rosters.specs.declared.Listed.{Listed}
 use Rattle.rosters.specs.declared.Listed.the-variants.{Sound, Refused}
-use Rattle.rosters.specs.Rosters.{placeOf, holds, placeFrom, firstRepeat, IsRoster, listed}
+use Rattle.rosters.specs.Rosters.{placeOf, holds, placeFrom, firstRepeat, firstFault, IsRoster, listed}
 
 -- ---- a serial's place
 
@@ -160,6 +160,62 @@ holds-last x s y = go (holds x s) (eqb y x) refl refl
     go false false e f =
         past-holds x (s ++ (y ∷ [])) (omega (arith, long, place-past x s (y ∷ []) (holds-past x s e), place-miss x y [] (eqb-false y x f)))
 
+-- ---- a part of w serials, from position b on, of the first n
+
+module _ (x : ℕ) (s : List ℕ) (b w n : ℕ) where
+  -- what stands in the part stands there
+  pub part-holds : b + w ≤ n → n ≤ length s → holds x (take w (drop b s)) ≡ true → holds x (take n s) ≡ true
+  part-holds l m e =
+      let h = holds-where x (take w (drop b s)) e in
+      let k : h .0 < w = omega (arith, h .1, length-take w (drop b s)) in
+      let i : b + h .0 < length (take n s) = omega (arith, length-take n s) in
+      where-holds x (take n s) (b + h .0) i (getD-take n s (b + h .0) 0 (omega arith) ∙ sym (getD-drop b s (h .0) 0) ∙ sym (getD-take w (drop b s) (h .0) 0 k) ∙ h .2)
+
+  -- what stands neither before some position of the part nor in the part does not, where the part is the last
+  pub part-lacks : (a : ℕ) → b ≤ a → n ≤ b + w → holds x (take a s) ≡ false → holds x (take w (drop b s)) ≡ false → holds x (take n s) ≡ false
+  part-lacks a l m e f = nowhere-holds x (take n s) (λ p h. go p h (ltb p a) refl)
+    where
+      go : (p : ℕ) → p < length (take n s) → (t : Bool) → ltb p a ≡ t → getD (take n s) p 0 ≡ x → ⊥
+      go p h true t q =
+          let i : p < a = ltb-true p a t in
+          let j : p < n = omega (arith, h, length-take n s) in
+          holds-nowhere x (take a s) e p (omega (arith, h, length-take n s, length-take a s)) (getD-take a s p 0 i ∙ sym (getD-take n s p 0 j) ∙ q)
+      go p h false t q =
+          let i : a ≤ p = ltb-false p a t in
+          let j : p < n = omega (arith, h, length-take n s) in
+          let k : b + (p - b) ≡ p = omega arith in
+          let d : getD (drop b s) (p - b) 0 ≡ getD s p 0 = getD-drop b s (p - b) 0 ∙ ap (λ (y : ℕ). getD s y 0) k in
+          holds-nowhere x (take w (drop b s)) f (p - b) (omega (arith, h, length-take n s, length-take w (drop b s), length-drop b s))
+          (getD-take w (drop b s) (p - b) 0 (omega arith) ∙ d ∙ sym (getD-take n s p 0 j) ∙ q)
+
+  -- so the last part decides
+  pub part-last : (a : ℕ) → b ≤ a → b + w ≡ n → n ≤ length s → holds x (take a s) ≡ false → holds x (take w (drop b s)) ≡ holds x (take n s)
+  part-last a l m k e = go (holds x (take w (drop b s))) refl
+    where
+      go : (t : Bool) → holds x (take w (drop b s)) ≡ t → holds x (take w (drop b s)) ≡ holds x (take n s)
+      go true t = t ∙ sym (part-holds (omega arith) k t)
+      go false t = t ∙ sym (part-lacks a l (omega arith) e t)
+
+-- ---- the first fault, by the first serial
+
+module _ (seen : List ℕ) (x : ℕ) (t : List ℕ) where
+  pub fault-zero : x ≡ 0 → firstFault seen (x ∷ t) ≡ 4
+  unfolding firstFault
+  fault-zero z = rw (eq-eqb x 0 z)
+
+  module _ (z : x ≡ 0 → ⊥) where
+    pub fault-twice : holds x seen ≡ true → firstFault seen (x ∷ t) ≡ 5
+    unfolding firstFault
+    fault-twice e = rw (ne-eqb x 0 z, e)
+
+    pub fault-new : holds x seen ≡ false → firstFault seen (x ∷ t) ≡ firstFault (seen ++ (x ∷ [])) t
+    unfolding firstFault
+    fault-new e = rw (ne-eqb x 0 z, e)
+
+pub fault-nil : (seen : List ℕ) → firstFault seen [] ≡ 0
+unfolding firstFault
+fault-nil seen = refl
+
 -- ---- a walk along a list: at position i, the serials from there on
 
 module _ (s : List ℕ) (i : ℕ) (l : i < length s) where
@@ -193,14 +249,16 @@ module _ (s : List ℕ) (i : ℕ) (l : i < length s) where
         let n : i + suc (placeOf x (drop (i + 1) s)) ≡ i + 1 + placeOf x (drop (i + 1) s) = omega arith in
         rw (walk-holds, ne-eqb (getD s i 0) x e, walk-miss e, n)
 
-  -- the first repeat from i on
-  pub repeat-hit : holds (getD s i 0) (take i s) ≡ true → firstRepeat (take i s) (drop i s) ≡ 0
-  unfolding firstRepeat
-  repeat-hit e = rw (ahead, e)
+  -- the first fault from i on
+  pub walk-zero : getD s i 0 ≡ 0 → firstFault (take i s) (drop i s) ≡ 4
+  walk-zero z = rw ahead (fault-zero (take i s) (getD s i 0) (drop (i + 1) s) z)
 
-  pub repeat-miss : holds (getD s i 0) (take i s) ≡ false → firstRepeat (take i s) (drop i s) ≡ suc (firstRepeat (take (i + 1) s) (drop (i + 1) s))
-  unfolding firstRepeat
-  repeat-miss e = rw (ahead, e, passed)
+  module _ (z : getD s i 0 ≡ 0 → ⊥) where
+    pub walk-twice : holds (getD s i 0) (take i s) ≡ true → firstFault (take i s) (drop i s) ≡ 5
+    walk-twice e = rw ahead (fault-twice (take i s) (getD s i 0) (drop (i + 1) s) z e)
+
+    pub walk-new : holds (getD s i 0) (take i s) ≡ false → firstFault (take i s) (drop i s) ≡ firstFault (take (i + 1) s) (drop (i + 1) s)
+    walk-new e = rw (ahead, passed) (fault-new (take i s) (getD s i 0) (drop (i + 1) s) z e)
 
 -- and past the end
 pub from-past : (s : List ℕ) (i x : ℕ) → length s ≤ i → placeFrom i x s ≡ placeOf x s
@@ -211,9 +269,8 @@ pub walk-done : (s : List ℕ) (i x : ℕ) → length s ≤ i → placeOf x (dro
 unfolding placeOf
 walk-done s i x l = rw (drop-of-length-le s l)
 
-pub repeat-done : (s : List ℕ) (i : ℕ) → length s ≤ i → firstRepeat (take i s) (drop i s) ≡ 0
-unfolding firstRepeat
-repeat-done s i l = rw (drop-of-length-le s l)
+pub fault-done : (s : List ℕ) (i : ℕ) → length s ≤ i → firstFault (take i s) (drop i s) ≡ 0
+fault-done s i l = rw (drop-of-length-le s l) (fault-nil (take i s))
 
 -- ---- the first repeat
 
@@ -249,6 +306,46 @@ repeat-there seen (x ∷ s) h = go (holds x seen) refl (repeat-there (seen ++ (x
         → holds (getD (x ∷ s) (cond b 0 (suc (firstRepeat (seen ++ (x ∷ [])) s))) 0) (seen ++ take (cond b 0 (suc (firstRepeat (seen ++ (x ∷ [])) s))) (x ∷ s)) ≡ true
     go true e rest l = rw (append-nil seen) e
     go false e rest l = rw append-assoc at (rest (omega arith))
+
+-- every serial is one of the three
+data Judged (seen : List ℕ) (x : ℕ) : Type 0 where
+  zeroth : x ≡ 0 → Judged seen x
+  again : (x ≡ 0 → ⊥) → holds x seen ≡ true → Judged seen x
+  new : (x ≡ 0 → ⊥) → holds x seen ≡ false → Judged seen x
+
+judged : (seen : List ℕ) (x : ℕ) → Judged seen x
+judged seen x = go (eqb x 0) (holds x seen) refl refl
+  where
+    go : (a b : Bool) → eqb x 0 ≡ a → holds x seen ≡ b → Judged seen x
+    go true b e f = zeroth (eqb-true x 0 e)
+    go false true e f = again (eqb-false x 0 e) f
+    go false false e f = new (eqb-false x 0 e) f
+
+-- no fault: no zero, and no repeat
+pub fault-none : (seen s : List ℕ) → firstFault seen s ≡ 0 → (holds 0 s ≡ false) × (firstRepeat seen s ≡ length s)
+unfolding firstRepeat
+fault-none seen [] h = (holds-nil 0, refl)
+fault-none seen (x ∷ s) h = go (fault-none (seen ++ (x ∷ [])) s) (judged seen x)
+  where
+    go : (firstFault (seen ++ (x ∷ [])) s ≡ 0 → (holds 0 s ≡ false) × (firstRepeat (seen ++ (x ∷ [])) s ≡ length s)) → Judged seen x
+        → (holds 0 (x ∷ s) ≡ false) × (firstRepeat seen (x ∷ s) ≡ length (x ∷ s))
+    go rest (zeroth z) = absurd (omega (arith, fault-zero seen x s z))
+    go rest (again z e) = absurd (omega (arith, fault-twice seen x s z e))
+    go rest (new z e) = let w = rest (sym (fault-new seen x s z e) ∙ h) in (holds-first 0 x s ∙ rw (ne-eqb x 0 z) (w .0), rw e (ap suc (w .1)))
+
+-- a fault where there is no zero is a repeat
+pub fault-some : (seen s : List ℕ) → (firstFault seen s ≡ 0 → ⊥) → holds 0 s ≡ false → firstRepeat seen s < length s
+unfolding firstRepeat
+fault-some seen [] h n = absurd (h (fault-nil seen))
+fault-some seen (x ∷ s) h n = go (fault-some (seen ++ (x ∷ [])) s) (judged seen x)
+  where
+    go : ((firstFault (seen ++ (x ∷ [])) s ≡ 0 → ⊥) → holds 0 s ≡ false → firstRepeat (seen ++ (x ∷ [])) s < length s) → Judged seen x → firstRepeat seen (x ∷ s) < suc (length s)
+    go rest (zeroth z) = absurd (holds-nowhere 0 (x ∷ s) n 0 (omega arith) z)
+    go rest (again z e) = rw e (omega arith)
+    go rest (new z e) =
+        let m : holds 0 s ≡ false = rw (ne-eqb x 0 z) at (sym (holds-first 0 x s) ∙ n) in
+        let l : firstRepeat (seen ++ (x ∷ [])) s < length s = rest (λ q. h (fault-new seen x s z e ∙ q)) m in
+        rw e (omega arith)
 
 -- where none is found, the serials at any two positions differ
 module _ (s : List ℕ) (e : firstRepeat [] s ≡ length s) where

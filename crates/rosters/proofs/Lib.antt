@@ -1,4 +1,5 @@
--- `Laws` and `Pads` are what a crate above cites; `Marks` is for `first_repeat`.
+-- `Laws`, `Pads` and `Orders` are what a crate above cites; `Marks` is for `first_fault`.
 pub mod Laws
 pub mod Pads
 pub mod Marks
+pub mod Orders

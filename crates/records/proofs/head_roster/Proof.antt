@@ -1,11 +1,9 @@
 -- `records::head_roster` meets its contract: one law for each answer. Assumes nothing.
-use mathlib.Core.Path.{refl, sym, _∙_}
+use mathlib.Core.Path.{_∙_}
 use native.Mathlib.Omega.{arith}
 use borrow.Author.Needs.{needs}
-use Rattle.places.proofs.Laws.{found-at}
-use Rattle.rosters.proofs.Laws.{found-holds, found-lacks}
 use Rattle.records.specs.Parts.{headOf}
-use Rattle.records.proofs.Heads.{after-early, after-few, after-many, after-fault, after-strange, after-found}
+use Rattle.records.proofs.Heads.{coded-none, after-early, after-few, after-many, after-fault, after-read, on-in}
 use Rattle.records.proofs.head_roster.Statement.{statement}
 use Rattle.records.proofs.head_roster.Tie as tie
 
@@ -39,33 +37,21 @@ returns-4 c =
     let r = c .before .read-roster in
     (after-fault _ _ _ _ (c .before .before .before .before .before .before .if1 .left) (c .before .before .before .before .if2 .left) (c .before .before .before .if3 .left) (r .result) _ _ (r .ensures .0) (c .if4 .taken), tt)
 
-find-on-requires : tie.Need-find-on-requires
-find-on-requires c κs = search needs
+add-on-roster : tie.Need-add-on-roster
+add-on-roster c = search needs
 
-enum-known-place : tie.Need-enum-known-place
-enum-known-place c = search needs
-
-enum-told : tie.Need-enum-told
-enum-told c = search needs
+on-roster-requires : tie.Need-on-roster-requires
+on-roster-requires c κs = search needs
 
 returns-5 : tie.Need-returns-5
-unfolding headOf
 returns-5 c =
-    let r = c .before .before .before .before .before .before .read-roster in (
-      after-strange _ _ _ _ (c .before .before .before .before .before .before .before .before .before .before .before .if1 .left) (c .before .before .before .before .before .before .before .before .before .if2 .left) (c .before .before .before .before .before .before .before .before .if3 .left) (r .result) _ _ (r .ensures .0) (c .before .before .before .before .before .if4 .left) (found-lacks _ _ _ (c .before .before .find-on .ensures) (c .enum-told .given .1)),
-      tt,
-    )
-
-add-t9 : tie.Need-add-t9
-add-t9 c = search needs
-
-returns-6 : tie.Need-returns-6
-unfolding headOf
-returns-6 c =
-    let r = c .before .before .before .before .before .before .before .read-roster in
-    let f = c .before .before .before .find-on in (
-      after-found _ _ _ _ (c .before .before .before .before .before .before .before .before .before .before .before .before .if1 .left) (c .before .before .before .before .before .before .before .before .before .before .if2 .left) (c .before .before .before .before .before .before .before .before .before .if3 .left) (r .result) _ _ (r .ensures .0) (c .before .before .before .before .before .before .if4 .left) (found-holds _ _ _ (f .ensures) _ (c .before .place .given .1)) _ (found-at _ _ _ (sym (f .ensures) ∙ c .before .place .given .1) .0),
-      record { starts = refl; rostered = r .ensures .1 (c .before .before .before .before .before .before .if4 .left) },
+    let e = c .before .before .before in
+    let r = e .before .read-roster in
+    let n = e .before .before .before in
+    let o = c .on-roster .ensures in
+    let z = e .if4 .left in (
+      rw o (after-read _ _ _ _ (n .before .before .before .if1 .left) (n .before .if2 .left) (n .if3 .left) _ _ (r .ensures .0 ∙ coded-none _ _ _ z)),
+      rw o (on-in _ _ _ _ _ _ (r .ensures .1 z)),
     )
 
 pub head-roster-spec : {M : Type 1} → statement M
@@ -80,9 +66,6 @@ head-roster-spec =
     add-read-roster
     read-roster-requires
     returns-4
-    find-on-requires
-    enum-known-place
-    enum-told
-    returns-5
-    add-t9
-    returns-6)
+    add-on-roster
+    on-roster-requires
+    returns-5)

@@ -1,67 +1,50 @@
--- `records::read_head` meets its contract: one law for each answer. Assumes nothing.
+-- `records::read_head` meets its contract. Assumes nothing.
 use mathlib.Core.Path.{_≡_, _∙_}
 use Prim.Native.Nat.{_+_}
 use native.Mathlib.Omega.{arith}
 use borrow.Author.Needs.{needs}
-use Rattle.records.specs.Parts.{headOf}
-use Rattle.records.proofs.Heads.{head-early, head-full, head-short, head-unknown}
+use Rattle.records.specs.Parts.{ownerOf, headOf}
 use Rattle.records.proofs.read_head.Statement.{statement}
 use Rattle.records.proofs.read_head.Tie as tie
 
+read-owner-requires : tie.Need-read-owner-requires
+read-owner-requires c κs = search needs
+
+enum-known-fault : tie.Need-enum-known-fault
+enum-known-fault c = search needs
+
+enum-known-kind : tie.Need-enum-known-kind
+enum-known-kind c = search needs
+
+add-head-roster : tie.Need-add-head-roster
+add-head-roster c =
+    let w = rw (c .before .kind .given .1) at (c .before .before .before .read-owner .ensures .1) in
+    omega (arith, w)
+
+head-roster-requires : tie.Need-head-roster-requires
+head-roster-requires c κs =
+    let w = rw (c .before .before .kind .given .1) at (c .before .before .before .before .read-owner .ensures .1) in
+    w
+
 returns : tie.Need-returns
-unfolding headOf
-returns c = (head-early _ _ (c .if1 .taken), tt)
-
-shared-slice-read-kind : tie.Need-shared-slice-read-kind
-shared-slice-read-kind c = search needs
-
-add-head-own : tie.Need-add-head-own
-add-head-own c = search needs
-
-head-own-requires : tie.Need-head-own-requires
-head-own-requires c κs = search needs
-
-add-head-own-2 : tie.Need-add-head-own-2
-add-head-own-2 c = search needs
-
-head-own-requires-2 : tie.Need-head-own-requires-2
-head-own-requires-2 c κs = search needs
+unfolding ownerOf headOf
+returns c = (c .before .before .before .read-owner .ensures .0 ∙ rw (c .before .fault .given .1), tt)
 
 returns-2 : tie.Need-returns-2
+unfolding ownerOf
 returns-2 c =
-    let a = c .before .before .before .before .before .before .args in
-    let e : a .at + 1 + 5 ≡ a .at + 6 = omega arith in
-    (head-full (a .bytes .now) (a .at) (c .before .before .before .before .if1 .left) (c .before .before .match .keys1) ∙ c .head-own .ensures .0, rw e at (c .head-own .ensures .1))
-
-returns-3 : tie.Need-returns-3
-returns-3 c =
-    let a = c .before .before .before .before .before .before .args in
-    let e : a .at + 1 + 5 ≡ a .at + 6 = omega arith in
-    (head-short (a .bytes .now) (a .at) (c .before .before .before .before .if1 .left) (c .before .before .match .keys2) ∙ c .head-own2 .ensures .0, rw e at (c .head-own2 .ensures .1))
-
-returns-4 : tie.Need-returns-4
-unfolding headOf
-returns-4 c =
-    let a = c .before .before .before .before .args in
-    (head-unknown (a .bytes .now) (a .at) (c .before .before .if1 .left) (λ e. omega (arith, c .match .keys3)) (λ e. omega (arith, c .match .keys3)), tt)
-
-returns-5 : tie.Need-returns-5
-unfolding headOf
-returns-5 c =
-    let a = c .before .before .before .before .args in
-    (head-unknown (a .bytes .now) (a .at) (c .before .before .if1 .left) (c .match .rest .0 .0 .1) (c .match .rest .0 .1), tt)
+    let a = c .before .before .before .before .before .before .before .args in
+    let e : a .at + 5 + 1 ≡ a .at + 6 = omega arith in
+    (c .before .before .before .before .before .read-owner .ensures .0 ∙ rw (c .before .before .before .kind .given .1) (c .head-roster .ensures .0), rw e at (c .head-roster .ensures .1))
 
 pub read-head-spec : {M : Type 1} → statement M
 read-head-spec =
     tie.close
     (tie.spec
+    read-owner-requires
+    enum-known-fault
+    enum-known-kind
+    add-head-roster
+    head-roster-requires
     returns
-    shared-slice-read-kind
-    add-head-own
-    head-own-requires
-    add-head-own-2
-    head-own-requires-2
-    returns-2
-    returns-3
-    returns-4
-    returns-5)
+    returns-2)

@@ -1,42 +1,92 @@
--- `records::same_serials` meets its contract. The invariant: `same` says whether the first i are alike. Assumes nothing.
-use mathlib.Core.Path.{_≡_, refl, ap, _∙_}
-use Prim.Native.Nat.{_-_, _≤_}
+-- `records::same_serials` meets its contract. The invariant: the lists are alike where they are from i on. Assumes nothing.
+use mathlib.Core.Path.{_≡_, refl, sym, _∙_}
+use Prim.Native.Nat.{_+_, _-_, _≤_}
 use native.Mathlib.Omega.{arith}
-use lib.ListN.{length, take, drop}
-use lib.Seq.{take-all}
+use lib.ListN.{length}
 use borrow.Author.Needs.{needs}
-use Rattle.records.specs.Records.{serials, sameList}
-use Rattle.records.proofs.Lists.{same-next}
+use borrow.Author.Tests.{not-true, not-false}
+use Rattle.records.specs.Parts.{alikeFrom}
+use Rattle.records.proofs.Lists.{alike-all, alike-yes, alike-no}
 use Rattle.records.proofs.same_serials.Statement.{statement}
 use Rattle.records.proofs.same_serials.Tie as tie
 
 abbrev Inv-loop : tie.InvT-loop
-Inv-loop bytes at list same₀ i₀ same i = (i ≤ length list) × (same ≡ sameList (serials i (drop at bytes)) (take i list))
+Inv-loop bytes at list i₀ i = (i ≤ length list) × (alikeFrom 0 bytes at list ≡ alikeFrom i bytes at list)
 
 abbrev μ-loop : tie.MeasureT-loop
-μ-loop bytes at list same₀ i₀ same i = length list - i
+μ-loop bytes at list i₀ i = length list - i
 
 loop-holds : tie.Need-loop-holds Inv-loop μ-loop
-unfolding serials sameList
 loop-holds c = (omega arith, refl)
 
-mul-serial-at : tie.Need-mul-serial-at Inv-loop μ-loop
-mul-serial-at c = search needs
+sub-loop : tie.Need-sub-loop Inv-loop μ-loop
+sub-loop c = search needs
 
-add-serial-at : tie.Need-add-serial-at Inv-loop μ-loop
-add-serial-at c = search needs
+mul-p : tie.Need-mul-p Inv-loop μ-loop
+mul-p c = search needs
 
-serial-at-requires : tie.Need-serial-at-requires Inv-loop μ-loop
-serial-at-requires c κs = search needs
+add-p : tie.Need-add-p Inv-loop μ-loop
+add-p c = search needs
 
-mul-also : tie.Need-mul-also Inv-loop μ-loop
-mul-also c = search needs
+same-four-requires : tie.Need-same-four-requires Inv-loop μ-loop
+same-four-requires c κs = search needs
 
-shared-slice-read-also : tie.Need-shared-slice-read-also Inv-loop μ-loop
-shared-slice-read-also c = search needs
+returns : tie.Need-returns Inv-loop μ-loop
+returns c =
+    let l = c .before .before .before in
+    let a = l .before .before .before .args in
+    sym (sym (alike-all _ _ _) ∙ l .loop .inv .1 ∙ alike-no (a .bytes .now) (a .at) (a .list .now) 4 (l .loop .i) (omega arith) _ (omega arith) _ (c .before .same-four .ensures) (not-true _ (c .if1 .taken)))
 
-also-requires : tie.Need-also-requires Inv-loop μ-loop
-also-requires c κs = search needs
+add-same-four : tie.Need-add-same-four Inv-loop μ-loop
+add-same-four c = search needs
+
+add-same-four-2 : tie.Need-add-same-four-2 Inv-loop μ-loop
+add-same-four-2 c = search needs
+
+same-four-requires-2 : tie.Need-same-four-requires-2 Inv-loop μ-loop
+same-four-requires-2 c κs = search needs
+
+returns-2 : tie.Need-returns-2 Inv-loop μ-loop
+returns-2 c =
+    let l = c .before .before .before .before .before in
+    let a = l .before .before .before .args in
+    sym (sym (alike-all _ _ _) ∙ l .loop .inv .1 ∙ alike-yes (a .bytes .now) (a .at) (a .list .now) 4 (l .loop .i) (omega arith) _ (omega arith) _ (c .before .before .before .same-four .ensures) (not-false _ (c .before .before .if1 .left)) (l .loop .i + 4) (omega arith)
+    ∙ alike-no (a .bytes .now) (a .at) (a .list .now) 4 (l .loop .i + 4) (omega arith) _ (omega arith) _ (c .before .same-four2 .ensures) (not-true _ (c .if2 .taken)))
+
+add-same-four-3 : tie.Need-add-same-four-3 Inv-loop μ-loop
+add-same-four-3 c = search needs
+
+add-same-four-4 : tie.Need-add-same-four-4 Inv-loop μ-loop
+add-same-four-4 c = search needs
+
+same-four-requires-3 : tie.Need-same-four-requires-3 Inv-loop μ-loop
+same-four-requires-3 c κs = search needs
+
+returns-3 : tie.Need-returns-3 Inv-loop μ-loop
+returns-3 c =
+    let l = c .before .before .before .before .before .before .before in
+    let a = l .before .before .before .args in
+    sym (sym (alike-all _ _ _) ∙ l .loop .inv .1 ∙ alike-yes (a .bytes .now) (a .at) (a .list .now) 4 (l .loop .i) (omega arith) _ (omega arith) _ (c .before .before .before .before .before .same-four .ensures) (not-false _ (c .before .before .before .before .if1 .left)) (l .loop .i + 4) (omega arith)
+    ∙ alike-yes (a .bytes .now) (a .at) (a .list .now) 4 (l .loop .i + 4) (omega arith) _ (omega arith) _ (c .before .before .before .same-four2 .ensures) (not-false _ (c .before .before .if2 .left)) (l .loop .i + 8) (omega arith)
+    ∙ alike-no (a .bytes .now) (a .at) (a .list .now) 4 (l .loop .i + 8) (omega arith) _ (omega arith) _ (c .before .same-four3 .ensures) (not-true _ (c .if3 .taken)))
+
+add-same-four-5 : tie.Need-add-same-four-5 Inv-loop μ-loop
+add-same-four-5 c = search needs
+
+add-same-four-6 : tie.Need-add-same-four-6 Inv-loop μ-loop
+add-same-four-6 c = search needs
+
+same-four-requires-4 : tie.Need-same-four-requires-4 Inv-loop μ-loop
+same-four-requires-4 c κs = search needs
+
+returns-4 : tie.Need-returns-4 Inv-loop μ-loop
+returns-4 c =
+    let l = c .before .before .before .before .before .before .before .before .before in
+    let a = l .before .before .before .args in
+    sym (sym (alike-all _ _ _) ∙ l .loop .inv .1 ∙ alike-yes (a .bytes .now) (a .at) (a .list .now) 4 (l .loop .i) (omega arith) _ (omega arith) _ (c .before .before .before .before .before .before .before .same-four .ensures) (not-false _ (c .before .before .before .before .before .before .if1 .left)) (l .loop .i + 4) (omega arith)
+    ∙ alike-yes (a .bytes .now) (a .at) (a .list .now) 4 (l .loop .i + 4) (omega arith) _ (omega arith) _ (c .before .before .before .before .before .same-four2 .ensures) (not-false _ (c .before .before .before .before .if2 .left)) (l .loop .i + 8) (omega arith)
+    ∙ alike-yes (a .bytes .now) (a .at) (a .list .now) 4 (l .loop .i + 8) (omega arith) _ (omega arith) _ (c .before .before .before .same-four3 .ensures) (not-false _ (c .before .before .if3 .left)) (l .loop .i + 12) (omega arith)
+    ∙ alike-no (a .bytes .now) (a .at) (a .list .now) 4 (l .loop .i + 12) (omega arith) _ (omega arith) _ (c .before .same-four4 .ensures) (not-true _ (c .if4 .taken)))
 
 add-i : tie.Need-add-i Inv-loop μ-loop
 add-i c = search needs
@@ -46,16 +96,22 @@ loop-less c = search needs
 
 loop-again : tie.Need-loop-again Inv-loop μ-loop
 loop-again c =
-    let l = c .before .before .before .before in
-    let a = l .before .before .before .args in
-    (omega arith, c .also .ensures ∙ same-next (a .bytes .now) (a .at) (l .loop .i) (a .list .now) (omega arith) (l .loop .same) _ (l .loop .inv .1) (c .before .before .serial-at .ensures))
+    let l = c .before .before .before .before .before .before .before .before .before in
+    let a = l .before .before .before .args in (
+      omega arith,
+      l .loop .inv .1 ∙ alike-yes (a .bytes .now) (a .at) (a .list .now) 4 (l .loop .i) (omega arith) _ (omega arith) _ (c .before .before .before .before .before .before .before .same-four .ensures) (not-false _ (c .before .before .before .before .before .before .if1 .left)) (l .loop .i + 4) (omega arith)
+          ∙ alike-yes (a .bytes .now) (a .at) (a .list .now) 4 (l .loop .i + 4) (omega arith) _ (omega arith) _ (c .before .before .before .before .before .same-four2 .ensures) (not-false _ (c .before .before .before .before .if2 .left)) (l .loop .i + 8) (omega arith)
+          ∙ alike-yes (a .bytes .now) (a .at) (a .list .now) 4 (l .loop .i + 8) (omega arith) _ (omega arith) _ (c .before .before .before .same-four3 .ensures) (not-false _ (c .before .before .if3 .left)) (l .loop .i + 12) (omega arith)
+          ∙ alike-yes (a .bytes .now) (a .at) (a .list .now) 4 (l .loop .i + 12) (omega arith) _ (omega arith) _ (c .before .same-four4 .ensures) (not-false _ (c .if4 .left)) (l .loop .i + 16) (omega arith),
+    )
 
-returns : tie.Need-returns Inv-loop μ-loop
-returns c =
-    let l = c .before in
-    let a = l .before .before .before .args in
-    let e : l .loop .i ≡ length (a .list .now) = omega arith in
-    l .loop .inv .1 ∙ rw (← e) (ap (sameList (serials (l .loop .i) (drop (a .at) (a .bytes .now)))) (take-all (l .loop .i) (a .list .now) (omega arith)))
+same-last-requires : tie.Need-same-last-requires Inv-loop μ-loop
+same-last-requires c κs = search needs
+
+returns-5 : tie.Need-returns-5 Inv-loop μ-loop
+returns-5 c =
+    let l = c .before .before in
+    c .same-last .ensures ∙ sym (l .loop .inv .1) ∙ alike-all _ _ _
 
 pub same-serials-spec : {M : Type 1} → statement M
 same-serials-spec =
@@ -64,13 +120,25 @@ same-serials-spec =
     Inv-loop
     μ-loop
     loop-holds
-    mul-serial-at
-    add-serial-at
-    serial-at-requires
-    mul-also
-    shared-slice-read-also
-    also-requires
+    sub-loop
+    mul-p
+    add-p
+    same-four-requires
+    returns
+    add-same-four
+    add-same-four-2
+    same-four-requires-2
+    returns-2
+    add-same-four-3
+    add-same-four-4
+    same-four-requires-3
+    returns-3
+    add-same-four-5
+    add-same-four-6
+    same-four-requires-4
+    returns-4
     add-i
     loop-less
     loop-again
-    returns)
+    same-last-requires
+    returns-5)

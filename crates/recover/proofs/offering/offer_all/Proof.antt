@@ -11,10 +11,10 @@ use Rattle.recover.proofs.offering.offer_all.Statement.{statement}
 use Rattle.recover.proofs.offering.offer_all.Tie as tie
 
 abbrev Inv-loop : tie.InvT-loop
-Inv-loop input₀ out₀ recovery₀ w₀ used₀ number₀ input out recovery w used number = Inside w input × (length input ≡ length input₀) × (used ≤ length out₀) × (length out ≡ length out₀)
+Inv-loop input₀ out₀ recovery₀ order₀ w₀ used₀ number₀ input out recovery order w used number = Inside w input × (length input ≡ length input₀) × (used ≤ length out₀) × (length out ≡ length out₀)
 
 abbrev μ-loop : tie.MeasureT-loop
-μ-loop input₀ out₀ recovery₀ w₀ used₀ number₀ input out recovery w used number = 18446744073709551615 - number
+μ-loop input₀ out₀ recovery₀ order₀ w₀ used₀ number₀ input out recovery order w used number = 18446744073709551615 - number
 
 unopened-requires : tie.Need-unopened-requires Inv-loop μ-loop
 unopened-requires c κs = search needs
@@ -31,14 +31,14 @@ ready-requires c κs = search needs
 add-number : tie.Need-add-number Inv-loop μ-loop
 add-number c = search needs
 
-slice-reshare-prefix-read : tie.Need-slice-reshare-prefix-read Inv-loop μ-loop
-slice-reshare-prefix-read c = search needs
+slice-reshare-prefix-read-next : tie.Need-slice-reshare-prefix-read-next Inv-loop μ-loop
+slice-reshare-prefix-read-next c = search needs
 
-slice-aggregate-read : tie.Need-slice-aggregate-read Inv-loop μ-loop
-slice-aggregate-read c = sym (length-take-le _ _ (c .before .before .before .before .ready .ensures .0 .1))
+slice-aggregate-read-next : tie.Need-slice-aggregate-read-next Inv-loop μ-loop
+slice-aggregate-read-next c = sym (length-take-le _ _ (c .before .before .before .before .ready .ensures .0 .1))
 
-read-requires : tie.Need-read-requires Inv-loop μ-loop
-read-requires c κs = search needs
+read-next-requires : tie.Need-read-next-requires Inv-loop μ-loop
+read-next-requires c κs = search needs
 
 enum-known-got : tie.Need-enum-known-got Inv-loop μ-loop
 enum-known-got c = search needs
@@ -56,24 +56,27 @@ slice-reshare-prefix-opened-by : tie.Need-slice-reshare-prefix-opened-by Inv-loo
 slice-reshare-prefix-opened-by c = search needs
 
 slice-aggregate-opened-by : tie.Need-slice-aggregate-opened-by Inv-loop μ-loop
-slice-aggregate-opened-by c = sym (length-take-le _ _ (c .before .before .before .before .before .before .before .before .before .before .ready .ensures .0 .1))
+slice-aggregate-opened-by c = sym (length-take-le _ _ (c .before .before .before .before .before .before .before .before .before .before .before .before .before .before .ready .ensures .0 .1))
 
 opened-by-requires : tie.Need-opened-by-requires Inv-loop μ-loop
-opened-by-requires c κs = sym (c .before .before .before .before .before .read .ensures) ∙ c .before .before .before .got .given .1
+opened-by-requires c κs = sym (c .before .before .before .before .before .read-next .ensures) ∙ c .before .before .before .got .given .1
+
+order-of-requires : tie.Need-order-of-requires Inv-loop μ-loop
+order-of-requires c κs = search needs
 
 slice-reshare-prefix-judge : tie.Need-slice-reshare-prefix-judge Inv-loop μ-loop
 slice-reshare-prefix-judge c = search needs
 
 slice-aggregate-judge : tie.Need-slice-aggregate-judge Inv-loop μ-loop
-slice-aggregate-judge c = sym (length-take-le _ _ (c .before .before .before .before .before .before .before .before .before .before .before .before .before .before .before .ready .ensures .0 .1))
+slice-aggregate-judge c = sym (length-take-le _ _ (c .before .before .before .before .before .before .before .before .before .before .before .before .before .before .before .before .before .before .before .ready .ensures .0 .1))
 
 judge-requires : tie.Need-judge-requires Inv-loop μ-loop
 judge-requires c κs = search needs
 
 say-record-requires-2 : tie.Need-say-record-requires-2 Inv-loop μ-loop
 say-record-requires-2 c κs =
-    let l = c .before .before .before .before .before .before .before .before .before .before .before .before .before .before .before .before .before .before .before .before .loop .inv in
-    let s = c .before .before .before .before .before .before .before .before .before .before .before .before .before .before .before .before .before .before .before .before .before .before .before .before .before .pre in
+    let l = c .before .before .before .before .before .before .before .before .before .before .before .before .before .before .before .before .before .before .before .before .before .before .before .before .loop .inv in
+    let s = c .before .before .before .before .before .before .before .before .before .before .before .before .before .before .before .before .before .before .before .before .before .before .before .before .before .before .before .before .before .pre in
     (omega (arith, l .2, l .3), omega (arith, l .3, s .1))
 
 is-taken-requires : tie.Need-is-taken-requires Inv-loop μ-loop
@@ -87,7 +90,7 @@ past-requires c κs = search needs
 
 loop-less : tie.Need-loop-less Inv-loop μ-loop
 loop-less c =
-    let t = c .before .before .before .before .before .before .before .before .before .before .before .before .before .before .before .before .before .before .before .before .before .before .before .before .before .loop-test .taken in
+    let t = c .before .before .before .before .before .before .before .before .before .before .before .before .before .before .before .before .before .before .before .before .before .before .before .before .before .before .before .before .before .loop-test .taken in
     omega (arith, t)
 
 loop-again : tie.Need-loop-again Inv-loop μ-loop
@@ -95,10 +98,10 @@ loop-again c =
     let p = c .past .ensures in
     let s = c .before .before .before .before .before .say-record2 in
     let told = c .before .before .before .before .before .before .before .before .before .before .before .before .before .before .before .before in
-    let r = told .before .before .read in
-    let w = told .before .before .before .before .before .before .before .ready in
+    let r = told .before .before .read-next in
+    let w = told .before .before .before .before .before .before .before .before .before .before .before .ready in
     let i = w .ensures .0 .1 in
-    let l = told .before .before .before .before .before .before .before .before .before .before .loop .inv in
+    let l = told .before .before .before .before .before .before .before .before .before .before .before .before .before .before .loop .inv in
     let e = ends-inside _ _ _ (sym (r .ensures) ∙ told .got .given .1) in
     ((omega (arith, p .0, p .1, e, length-take-le (w .result .have) (w .last .0) i), omega (arith, p .1, i)), search needs, subst (λ n. s .result ≤ n) (l .3) (s .ensures .inside), search needs)
 
@@ -140,9 +143,9 @@ offer-all-spec =
     loop-holds
     ready-requires
     add-number
-    slice-reshare-prefix-read
-    slice-aggregate-read
-    read-requires
+    slice-reshare-prefix-read-next
+    slice-aggregate-read-next
+    read-next-requires
     enum-known-got
     enum-told
     fault-of-requires
@@ -150,6 +153,7 @@ offer-all-spec =
     slice-reshare-prefix-opened-by
     slice-aggregate-opened-by
     opened-by-requires
+    order-of-requires
     slice-reshare-prefix-judge
     slice-aggregate-judge
     judge-requires
