@@ -14,7 +14,7 @@ use Rattle.places.proofs.Tests.{any-elim, any-intro}
 use Rattle.places.proofs.Laws.{has-below}
 use Rattle.rows.specs.Rows.{rowsOf}
 use Rattle.histories.specs.Histories.{Row, Before, heard, through, Accepted}
-use Rattle.histories.specs.Rule.{recorded, mourned, before}
+use Rattle.histories.specs.Rule.{recorded, before}
 use Rattle.histories.proofs.Closure.{before-trans, reach-sound, reach-complete}
 use Rattle.answers.specs.Views.{size, acceptedIn, reachFrom}
 use Rattle.answers.proofs.Views.{On, cut, cut-is, cut-on, recorded-back, recorded-absent, recorded-parts, recorded-intro}
@@ -64,25 +64,9 @@ pub record Reaching (n : ℕ) (A : Accepted) (S seen left : PlaceSet) : Type 0 w
   pub walk : Walk A (reachFrom n A (has S)) seen left
   pub begun : (q : ℕ) → has S q ≡ true → has seen q ≡ true
 
--- ---- the mourned places
+-- ---- what is before
 
 module _ (n : ℕ) (A : Accepted) (on : On n A) where
-  mourned-intro : (p q : ℕ) → recorded A p q ≡ true → mourned n A q ≡ true
-  unfolding mourned
-  mourned-intro p q r = any-intro n (λ p. recorded A p q) p (on .back-on p (recorded-parts A p q r .0)) r
-
-  mourned-elim : (q : ℕ) → mourned n A q ≡ true → (p : ℕ) × (recorded A p q ≡ true)
-  unfolding mourned
-  mourned-elim q e = let r = any-elim n (λ p. recorded A p q) e in (r .0, r .2)
-
-  -- nobody is left: all that is mourned was named
-  mourned-all : (seen left : PlaceSet) → Walk A (mourned n A) seen left → ((k : ℕ) → k < 128 → has left k ≡ false) → has seen ≡ mourned n A
-  mourned-all seen left t none =
-      fun-ext (λ q. both-ways (has seen q) (mourned n A q) (t .sound q) (λ e. let r = mourned-elim q e in
-      t .given (r .0) q (r .1) (is-false (has left (r .0)) (λ l. clash l (none (r .0) (has-below left (r .0) l))))))
-
-  -- ---- what is before
-
   rows-on : (p q : ℕ) → recorded A p q ≡ true → p < n
   rows-on p q r = on .back-on p (recorded-parts A p q r .0)
 
@@ -181,18 +165,6 @@ module _ (count : ℕ) (w : List ℕ) (all s back : PlaceSet) (ea : has all ≡ 
 
   pub recorded-none : (p : ℕ) (row : PlaceSet) → has back p ≡ false → has row ≡ nothing → has row ≡ recorded (acceptedIn count (has s) w) p
   recorded-none p row b e = e ∙ recorded-absent (cut all back w) p b ∙ ap (λ (A : Accepted). recorded A p) whole
-
-  pub mourned-starts : (named : PlaceSet) → has named ≡ nothing → Walk (cut all back w) (mourned (size count) (cut all back w)) named back
-  mourned-starts named e = walk-starts (cut all back w) (mourned (size count) (cut all back w)) named back (λ q h. clash h (ap (λ (S : Places). S q) e)) refl
-
-  pub mourned-goes : (named left : PlaceSet) → Walk (cut all back w) (mourned (size count) (cut all back w)) named left → (p : ℕ) → has left p ≡ true → (row more rest : PlaceSet)
-      → has row ≡ intersection (has all) (rowsOf w p) → has more ≡ union (has named) (has row) → has rest ≡ without p (has left)
-      → Walk (cut all back w) (mourned (size count) (cut all back w)) more rest
-  mourned-goes named left t p = walk-goes (cut all back w) (mourned (size count) (cut all back w)) named left t p (mourned-intro (size count) (cut all back w) on p)
-
-  pub mourned-ends : (named left : PlaceSet) → Walk (cut all back w) (mourned (size count) (cut all back w)) named left → ((k : ℕ) → k < 128 → has left k ≡ false)
-      → has named ≡ mourned (size count) (acceptedIn count (has s) w)
-  mourned-ends named left t none = mourned-all (size count) (cut all back w) on named left t none ∙ ap (mourned (size count)) whole
 
   pub reached-starts : (S : PlaceSet) → Reaching (size count) (cut all back w) S S back
   reached-starts S = reaching-starts (size count) (cut all back w) on S back refl

@@ -1,5 +1,5 @@
-// The rule, computed from the rows of the returned places. `count` is the roster's length (one above 128 counts as 128); places off the roster,
-// in `returned` or in a row, are not looked at.
+// The rule, computed from the rows of the returned places and from the mourned places, which are kept beside them. `count` is the roster's
+// length (one above 128 counts as 128); places off the roster, in `returned` or in a row, are not looked at.
 ghost use mathlib.Core.Path.{_≡_};
 ghost use mathlib.Core.Bool.{not, _&&_, _||_};
 ghost use Prim.Native.Nat.{_≤_};
@@ -60,24 +60,6 @@ pub fn recorded(rows: &Rows, returned: PlaceSet, count: usize, place: Place) -> 
     places::empty()
 }
 
-// The mourned places: the union of the recorded rows.
-pub fn mourned(rows: &Rows, returned: PlaceSet, count: usize) -> PlaceSet
-    ensures { λ r. ⌜ has r ≡ rule.mourned (size count) (acceptedIn count (has returned) (now (rows .entry))) ⌝ }
-{
-    let all = roster(count);
-    let mut left = places::intersection(all, returned);
-    let mut named = places::empty();
-    loop {
-        let found = places::lowest(left);
-        let Found::At(p) = found else {
-            return named;
-        };
-        let heard = row_in(rows, all, p);
-        named = places::union(named, heard);
-        left = places::without(left, p);
-    }
-}
-
 // `from`, and all that is before its members: each returned place gives its row at most once.
 pub fn reached(rows: &Rows, returned: PlaceSet, count: usize, from: PlaceSet) -> PlaceSet
     ensures { λ r. ⌜ has r ≡ reachFrom (size count) (acceptedIn count (has returned) (now (rows .entry))) (has from) ⌝ }
@@ -105,97 +87,114 @@ fn all_before(rows: &Rows, returned: PlaceSet, count: usize, place: Place) -> Pl
     reached(rows, returned, count, row)
 }
 
-// The places of the roster that are not back, but for one place and those of `out`.
-fn absent_but(returned: PlaceSet, count: usize, place: Place, out: PlaceSet) -> PlaceSet
-    ensures { λ r. ⌜ has r ≡ sets.difference (sets.difference (sets.difference (sets.below (size count)) (sets.only (place .0))) (sets.intersection (sets.below (size count)) (has returned))) (has out) ⌝ }
+// The places of the roster that are not back, but for one place.
+fn absent_but(returned: PlaceSet, count: usize, place: Place) -> PlaceSet
+    ensures { λ r. ⌜ has r ≡ sets.difference (sets.difference (sets.below (size count)) (sets.only (place .0))) (sets.intersection (sets.below (size count)) (has returned)) ⌝ }
 {
     let all = roster(count);
     let others = places::without(all, place);
-    let absent = places::difference(others, returned);
-    places::difference(absent, out)
+    places::difference(others, returned)
+}
+
+// The blockers of a place in the short kind. Where no other place is absent, nothing is looked up.
+fn blockers_short(rows: &Rows, returned: PlaceSet, count: usize, place: Place) -> PlaceSet
+    ensures { λ r. ⌜ has r ≡ rule.blockersBy Short (size count) (acceptedIn count (has returned) (now (rows .entry))) sets.nothing (place .0) ⌝ }
+{
+    let absent = absent_but(returned, count, place);
+    if places::is_empty(absent) {
+        return absent;
+    }
+    let earlier = all_before(rows, returned, count, place);
+    places::difference(absent, earlier)
 }
 
 // The blockers of a place.
-pub fn blockers(kind: Kind, rows: &Rows, returned: PlaceSet, count: usize, place: Place) -> PlaceSet
-    ensures { λ r. ⌜ has r ≡ rule.blockers kind (size count) (acceptedIn count (has returned) (now (rows .entry))) (place .0) ⌝ }
+pub fn blockers(
+    kind: Kind,
+    rows: &Rows,
+    returned: PlaceSet,
+    mourned: PlaceSet,
+    count: usize,
+    place: Place,
+) -> PlaceSet
+    ensures { λ r. ⌜ has r ≡ rule.blockersBy kind (size count) (acceptedIn count (has returned) (now (rows .entry))) (has mourned) (place .0) ⌝ }
 {
     match kind {
         Kind::Full => {
-            let named = mourned(rows, returned, count);
-            absent_but(returned, count, place, named)
+            let absent = absent_but(returned, count, place);
+            places::difference(absent, mourned)
         }
-        Kind::Short => {
-            let earlier = all_before(rows, returned, count, place);
-            absent_but(returned, count, place, earlier)
-        }
+        Kind::Short => blockers_short(rows, returned, count, place),
     }
 }
 
-// Whether a place has a blocker, where the mourned places are known.
+// Whether a place has a blocker. In the full kind that is three set operations, which a caller takes in line.
 fn blocked(
     kind: Kind,
     rows: &Rows,
     returned: PlaceSet,
+    mourned: PlaceSet,
     count: usize,
     place: Place,
-    mourned: PlaceSet,
 ) -> bool
-    requires { ⌜ has mourned ≡ rule.mourned (size count) (acceptedIn count (has returned) (now rows)) ⌝ }
-    ensures { λ r. ⌜ r ≡ sets.any (size count) (rule.blockers kind (size count) (acceptedIn count (has returned) (now (rows .entry))) (place .0)) ⌝ }
+    ensures { λ r. ⌜ r ≡ sets.any (size count) (rule.blockersBy kind (size count) (acceptedIn count (has returned) (now (rows .entry))) (has mourned) (place .0)) ⌝ }
 {
     match kind {
         Kind::Full => {
-            let rest = absent_but(returned, count, place, mourned);
+            let absent = absent_but(returned, count, place);
+            let rest = places::difference(absent, mourned);
             !places::is_empty(rest)
         }
         Kind::Short => {
-            let chain = all_before(rows, returned, count, place);
-            let rest = absent_but(returned, count, place, chain);
+            let rest = blockers_short(rows, returned, count, place);
             !places::is_empty(rest)
         }
     }
 }
 
 // The answer for a place.
-pub fn answer_for(kind: Kind, rows: &Rows, returned: PlaceSet, count: usize, place: Place) -> Answer
-    ensures { λ r. ⌜ r ≡ answerOf (rule.answer kind (size count) (acceptedIn count (has returned) (now (rows .entry))) (place .0)) ⌝ }
+pub fn answer_for(
+    kind: Kind,
+    rows: &Rows,
+    returned: PlaceSet,
+    mourned: PlaceSet,
+    count: usize,
+    place: Place,
+) -> Answer
+    ensures { λ r. ⌜ r ≡ answerOf (rule.answerBy kind (size count) (acceptedIn count (has returned) (now (rows .entry))) (has mourned) (place .0)) ⌝ }
 {
-    let named = mourned(rows, returned, count);
-    if places::contains(named, place) {
+    if places::contains(mourned, place) {
         return Answer::NotLast;
     }
-    if blocked(kind, rows, returned, count, place, named) {
+    if blocked(kind, rows, returned, mourned, count, place) {
         return Answer::Open;
     }
     Answer::Last
 }
 
 // Whether no place of the roster is open.
-pub fn settled(kind: Kind, rows: &Rows, returned: PlaceSet, count: usize) -> bool
-    ensures { λ r. ⌜ r ≡ rule.settled kind (size count) (acceptedIn count (has returned) (now (rows .entry))) ⌝ }
+pub fn settled(kind: Kind, rows: &Rows, returned: PlaceSet, mourned: PlaceSet, count: usize) -> bool
+    ensures { λ r. ⌜ r ≡ rule.settledBy kind (size count) (acceptedIn count (has returned) (now (rows .entry))) (has mourned) ⌝ }
 {
-    let named = mourned(rows, returned, count);
-    let all = roster(count);
-    let mut unasked = places::difference(all, named);
+    let mut unasked = unmourned(mourned, count);
     loop {
         let found = places::lowest(unasked);
         let Found::At(p) = found else {
             return true;
         };
-        if blocked(kind, rows, returned, count, p, named) {
+        if blocked(kind, rows, returned, mourned, count, p) {
             return false;
         }
         unasked = places::without(unasked, p);
     }
 }
 
-// The unmourned places of the roster.
-pub fn unmourned(rows: &Rows, returned: PlaceSet, count: usize) -> PlaceSet
-    ensures { λ r. ⌜ has r ≡ rule.unmourned (size count) (acceptedIn count (has returned) (now (rows .entry))) ⌝ }
+// The places of the roster that are not mourned.
+pub fn unmourned(mourned: PlaceSet, count: usize) -> PlaceSet
+    ensures { λ r. ⌜ has r ≡ sets.difference (sets.below (size count)) (has mourned) ⌝ }
 {
-    let gone = mourned(rows, returned, count);
     let all = roster(count);
-    places::difference(all, gone)
+    places::difference(all, mourned)
 }
 
 // Whether both are true.
@@ -225,20 +224,14 @@ fn agrees(row: PlaceSet, other: Place, place: Place, named: PlaceSet) -> bool
 }
 
 // The test in the full kind: the record does not name its own place, and agrees with that of each returned place.
-fn accepts_full(
-    rows: &Rows,
-    returned: PlaceSet,
-    count: usize,
-    place: Place,
-    mourned: PlaceSet,
-) -> bool
-    ensures { λ r. ⌜ r ≡ rule.accepts Full (size count) (acceptedIn count (has returned) (now (rows .entry))) (place .0) (has mourned) ⌝ }
+fn accepts_full(rows: &Rows, returned: PlaceSet, count: usize, place: Place, row: PlaceSet) -> bool
+    ensures { λ r. ⌜ r ≡ rule.accepts Full (size count) (acceptedIn count (has returned) (now (rows .entry))) (place .0) (has row) ⌝ }
 {
-    if places::contains(mourned, place) {
+    if places::contains(row, place) {
         return false;
     }
     let all = roster(count);
-    let named = places::intersection(all, mourned);
+    let named = places::intersection(all, row);
     let mut left = places::intersection(all, returned);
     loop {
         let found = places::lowest(left);
@@ -255,33 +248,27 @@ fn accepts_full(
 
 // The test in the short kind: no chain leads from the record back to its place. A chain that passes the place twice has a
 // shorter one, so the place's own row is left out.
-fn accepts_short(
-    rows: &Rows,
-    returned: PlaceSet,
-    count: usize,
-    place: Place,
-    mourned: PlaceSet,
-) -> bool
-    ensures { λ r. ⌜ r ≡ rule.accepts Short (size count) (acceptedIn count (has returned) (now (rows .entry))) (place .0) (has mourned) ⌝ }
+fn accepts_short(rows: &Rows, returned: PlaceSet, count: usize, place: Place, row: PlaceSet) -> bool
+    ensures { λ r. ⌜ r ≡ rule.accepts Short (size count) (acceptedIn count (has returned) (now (rows .entry))) (place .0) (has row) ⌝ }
 {
     let others = places::without(returned, place);
-    let earlier = reached(rows, others, count, mourned);
+    let earlier = reached(rows, others, count, row);
     !places::contains(earlier, place)
 }
 
-// Whether the record of a place that is not back, with this mourned set, may be taken: the test for 11.
+// Whether the record of a place that is not back, with this row, may be taken: the test for 11.
 pub fn accepts(
     kind: Kind,
     rows: &Rows,
     returned: PlaceSet,
     count: usize,
     place: Place,
-    mourned: PlaceSet,
+    row: PlaceSet,
 ) -> bool
-    ensures { λ r. ⌜ r ≡ rule.accepts kind (size count) (acceptedIn count (has returned) (now (rows .entry))) (place .0) (has mourned) ⌝ }
+    ensures { λ r. ⌜ r ≡ rule.accepts kind (size count) (acceptedIn count (has returned) (now (rows .entry))) (place .0) (has row) ⌝ }
 {
     match kind {
-        Kind::Full => accepts_full(rows, returned, count, place, mourned),
-        Kind::Short => accepts_short(rows, returned, count, place, mourned),
+        Kind::Full => accepts_full(rows, returned, count, place, row),
+        Kind::Short => accepts_short(rows, returned, count, place, row),
     }
 }

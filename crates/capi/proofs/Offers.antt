@@ -4,7 +4,7 @@ use mathlib.Core.List.{List, [], _∷_}
 use Prim.Native.Nat.{ℕ}
 use native.Mathlib.Omega.{arith}
 use lib.ListN.{length, getD}
-use Rattle.places.specs.Sets.{with}
+use Rattle.places.specs.Sets.{union, with}
 use Rattle.places.specs.PlaceSets.{has, kept, Words, packed}
 use Rattle.places.specs.declared.PlaceSet.{PlaceSet}
 use Rattle.places.proofs.Laws.{packed-is, kept-has}
@@ -21,7 +21,7 @@ use Rattle.recovery.specs.declared.Offered.{Offered}
 use Rattle.recovery.specs.Contracts.{saying, keeping, answered, offered}
 use Rattle.recovery.proofs.Offers.{offered-read, offered-unread}
 use Rattle.capi.specs.declared.Head.{Head}
-use Rattle.capi.specs.Boundary.{kindIn, setIn, recoveryIn, withSet, replyCode, offeredHeld}
+use Rattle.capi.specs.Boundary.{kindIn, setIn, setAt, setWords, recoveryIn, withSet, replyCode, offeredHeld}
 use Rattle.capi.proofs.Calls.{Says}
 
 -- the words with their own places are as they were
@@ -34,35 +34,48 @@ same-set (a ∷ b ∷ []) e = absurd (omega arith)
 same-set (a ∷ b ∷ c ∷ []) e = absurd (omega arith)
 same-set (a ∷ b ∷ c ∷ d ∷ x ∷ xs) e = absurd (omega arith)
 
+pub same-words : (mourned : List ℕ) → length mourned ≡ 2 → mourned ≡ setWords (setAt mourned)
+unfolding setWords setAt
+same-words (a ∷ b ∷ []) e = refl
+same-words [] e = absurd (omega arith)
+same-words (a ∷ []) e = absurd (omega arith)
+same-words (a ∷ b ∷ x ∷ xs) e = absurd (omega arith)
+
 -- a place and its mourned set, kept
-pub keep-is : (head rows : List ℕ) (p : ℕ) (s w m : PlaceSet) (h t : List ℕ) → s ≡ setIn head → Words w → has w ≡ kept (with p (has s)) → Words m
-    → h ≡ withSet head w → t ≡ withRow rows p m
-    → (h ≡ withSet head (packed (with p (has (setIn head))))) × (t ≡ withRow rows p (packed (has m)))
-keep-is head rows p s w m h t es ww ew wm eh et = (
+pub keep-is : (head mourned rows : List ℕ) (p : ℕ) (s w n g m : PlaceSet) (h k t : List ℕ) → s ≡ setIn head → n ≡ setAt mourned → Words w → has w ≡ kept (with p (has s))
+    → Words g → has g ≡ union (has n) (has m) → Words m → h ≡ withSet head w → k ≡ setWords g → t ≡ withRow rows p m
+    → (h ≡ withSet head (packed (with p (has (setIn head))))) × ((k ≡ setWords (packed (union (has (setAt mourned)) (has m)))) × (t ≡ withRow rows p (packed (has m))))
+keep-is head mourned rows p s w n g m h k t es en ww ew wg eg wm eh ek et = (
   eh ∙ ap (withSet head) (packed-is w (with p (has s)) ww ew ∙ ap (λ (s : PlaceSet). packed (with p (has s))) es),
-  et ∙ ap (withRow rows p) (packed-is m (has m) wm (sym (kept-has m))),
+  (
+    ek ∙ ap setWords (packed-is g (union (has n) (has m)) wg (sym (kept-has g) ∙ ap kept eg) ∙ ap (λ (n : PlaceSet). packed (union (has n) (has m))) en),
+    et ∙ ap (withRow rows p) (packed-is m (has m) wm (sym (kept-has m))),
+  ),
 )
 
-module _ (head rows : List ℕ) (p : ℕ) (M : Row) (reply : Reply) where
-  -- the number of a reply to the record of p, and the words and the rows that it leaves
-  abbrev pub Leaves : ℕ → List ℕ → List ℕ → Type 0
-  Leaves c h t =
+module _ (head mourned rows : List ℕ) (p : ℕ) (M : Row) (reply : Reply) where
+  -- the number of a reply to the record of p, and the words, the mourned places and the rows that it leaves
+  abbrev pub Leaves : ℕ → List ℕ → List ℕ → List ℕ → Type 0
+  Leaves c h k t =
       (c ≡ replyCode reply)
-      × (((serials : List ℕ) → h ≡ withSet head (answered (recoveryIn head serials rows) p M reply .recovery .returned))
-      × ((serials : List ℕ) → t ≡ answered (recoveryIn head serials rows) p M reply .recovery .rows)
-      )
+      × (((serials : List ℕ) → h ≡ withSet head (answered (recoveryIn head mourned serials rows) p M reply .recovery .returned))
+      × (((serials : List ℕ) → k ≡ setWords (answered (recoveryIn head mourned serials rows) p M reply .recovery .mourned))
+      × ((serials : List ℕ) → t ≡ answered (recoveryIn head mourned serials rows) p M reply .recovery .rows)
+      ))
 
-  pub leaves-taken : (h t : List ℕ) → reply ≡ O.Taken → (h ≡ withSet head (packed (with p (has (setIn head))))) × (t ≡ withRow rows p (packed M)) → Leaves 0 h t
+  pub leaves-taken : (h k t : List ℕ) → reply ≡ O.Taken
+      → (h ≡ withSet head (packed (with p (has (setIn head))))) × ((k ≡ setWords (packed (union (has (setAt mourned)) M))) × (t ≡ withRow rows p (packed M))) → Leaves 0 h k t
   unfolding replyCode answered keeping recoveryIn
-  leaves-taken h t e (a, b) = rw e (refl, (λ serials. a, λ serials. b))
+  leaves-taken h k t e (a, (b, d)) = rw e (refl, (λ serials. a, (λ serials. b, λ serials. d)))
 
-  pub leaves-repeated : reply ≡ O.Repeated → length head ≡ 4 → Leaves 32 head rows
-  unfolding replyCode answered saying recoveryIn
-  leaves-repeated e l = rw e (refl, (λ serials. same-set head l, λ serials. refl))
+  module _ (l : length head ≡ 4) (m : length mourned ≡ 2) where
+    pub leaves-repeated : reply ≡ O.Repeated → Leaves 32 head mourned rows
+    unfolding replyCode answered saying recoveryIn
+    leaves-repeated e = rw e (refl, (λ serials. same-set head l, (λ serials. same-words mourned m, λ serials. refl)))
 
-  pub leaves-refused : (j : ℕ) → reply ≡ O.Refused j → length head ≡ 4 → Leaves j head rows
-  unfolding replyCode answered saying recoveryIn
-  leaves-refused j e l = rw e (refl, (λ serials. same-set head l, λ serials. refl))
+    pub leaves-refused : (j : ℕ) → reply ≡ O.Refused j → Leaves j head mourned rows
+    unfolding replyCode answered saying recoveryIn
+    leaves-refused j e = rw e (refl, (λ serials. same-set head l, (λ serials. same-words mourned m, λ serials. refl)))
 
 answered-reply : (r : Recovery) (p : ℕ) (M : Row) (a : Reply) → a ≡ answered r p M a .answer
 unfolding answered saying
@@ -70,21 +83,29 @@ answered-reply r p M O.Taken = refl
 answered-reply r p M O.Repeated = refl
 answered-reply r p M (O.Refused j) = refl
 
-module _ (head serials rows bytes : List ℕ) where
+module _ (head mourned serials rows bytes : List ℕ) where
   -- what a call answers and leaves is what offering does
-  abbrev pub Offers : ℕ → List ℕ → List ℕ → Type 0
-  Offers c h t = (c ≡ offeredHeld head serials rows bytes .code) × ((h ≡ offeredHeld head serials rows bytes .head) × (t ≡ offeredHeld head serials rows bytes .rows))
+  abbrev pub Offers : ℕ → List ℕ → List ℕ → List ℕ → Type 0
+  Offers c h k t =
+      (c ≡ offeredHeld head mourned serials rows bytes .code)
+      × ((h ≡ offeredHeld head mourned serials rows bytes .head)
+      × ((k ≡ offeredHeld head mourned serials rows bytes .mourned) × (t ≡ offeredHeld head mourned serials rows bytes .rows))
+      )
 
   pub offers-read : (h : Head) → Says head h → (x : Record) → readingLone bytes ≡ R.Read x
-      → (reply : Reply) → reply ≡ judgement (h .kind) (h .count) serials (has (h .set)) rows bytes x → (c : ℕ) (after t : List ℕ) → Leaves head rows (x .own .0) (has (x .mourned)) reply c after t → Offers c after t
+      → (reply : Reply) → reply ≡ judgement (h .kind) (h .count) serials (has (h .set)) rows bytes x
+      → (c : ℕ) (after named t : List ℕ) → Leaves head mourned rows (x .own .0) (has (x .mourned)) reply c after named t → Offers c after named t
   unfolding offeredHeld recoveryIn
-  offers-read h says x e reply f c after t (lc, (lh, lt)) = (
+  offers-read h says x e reply f c after named t (lc, (lh, (lm, lt))) = (
     lc ∙ ap replyCode (answered-reply r p M reply) ∙ ap (λ (o : Offered). replyCode (o .answer)) is,
-    (lh serials ∙ ap (λ (o : Offered). withSet head (o .recovery .returned)) is, lt serials ∙ ap (λ (o : Offered). o .recovery .rows) is),
+    (
+      lh serials ∙ ap (λ (o : Offered). withSet head (o .recovery .returned)) is,
+      (lm serials ∙ ap (λ (o : Offered). setWords (o .recovery .mourned)) is, lt serials ∙ ap (λ (o : Offered). o .recovery .rows) is),
+    ),
   )
     where
       r : Recovery
-      r = recoveryIn head serials rows
+      r = recoveryIn head mourned serials rows
 
       p : ℕ
       p = x .own .0
@@ -98,10 +119,13 @@ module _ (head serials rows bytes : List ℕ) where
       is : answered r p M reply ≡ offered r bytes
       is = ap (answered r p M) judged ∙ offered-read r bytes x e
 
-  pub offers-unread : (j : ℕ) → readingLone bytes ≡ R.Refused j → length head ≡ 4 → Offers j head rows
+  pub offers-unread : (j : ℕ) → readingLone bytes ≡ R.Refused j → length head ≡ 4 → length mourned ≡ 2 → Offers j head mourned rows
   unfolding offeredHeld recoveryIn replyCode saying
-  offers-unread j e l =
-      let is = offered-unread (recoveryIn head serials rows) bytes j e in (
+  offers-unread j e l m =
+      let is = offered-unread (recoveryIn head mourned serials rows) bytes j e in (
         ap (λ (o : Offered). replyCode (o .answer)) is,
-        (same-set head l ∙ ap (λ (o : Offered). withSet head (o .recovery .returned)) is, ap (λ (o : Offered). o .recovery .rows) is),
+        (
+          same-set head l ∙ ap (λ (o : Offered). withSet head (o .recovery .returned)) is,
+          (same-words mourned m ∙ ap (λ (o : Offered). setWords (o .recovery .mourned)) is, ap (λ (o : Offered). o .recovery .rows) is),
+        ),
       )

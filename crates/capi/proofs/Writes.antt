@@ -16,34 +16,43 @@ use Rattle.records.specs.declared.Writing.{Writing}
 use Rattle.records.specs.declared.Writing.the-variants as W
 use Rattle.records.specs.Records.{Written, unwritten, written}
 use Rattle.recovery.specs.declared.Recovery.{Recovery}
-use Rattle.recovery.specs.Contracts.{sizeOf, acceptedOf}
+use Rattle.recovery.specs.Contracts.{sizeOf, acceptedOf, writtenOf}
 use Rattle.recovery.proofs.Writes.{Leaves, write-12, write-14, write-back}
 use Rattle.capi.specs.declared.Head.{Head}
 use Rattle.capi.specs.declared.End.{End}
-use Rattle.capi.specs.Boundary.{recoveryIn, endOf, writtenParts}
+use Rattle.capi.specs.Boundary.{setAt, recoveryIn, endOf, writtenParts}
 use Rattle.capi.proofs.Calls.{Says, partsOf, held}
 
 -- ---- the record of a returned place
 
 module _ (head : List ℕ) (h : Head) (says : Says head h) (serials rows : List ℕ) (p : ℕ) (out : List ℕ) (at : ℕ) where
-  in-memory : (a : Writing) (after : List ℕ) → Leaves (partsOf h serials rows) p out at a after → Leaves (recoveryIn head serials rows) p out at a after
-  in-memory a after l = subst (λ (r : Recovery). Leaves r p out at a after) (held head h says serials rows) l
+  -- the answer and the buffer, whatever the mourned places are
+  abbrev pub Backs : Writing → List ℕ → Type 0
+  Backs a after =
+      ((mourned : List ℕ) → a ≡ writtenOf (recoveryIn head mourned serials rows) p out at .answer)
+      × ((mourned : List ℕ) → after ≡ writtenOf (recoveryIn head mourned serials rows) p out at .buffer)
 
-  pub back-12 : size (h .count) ≤ p → Leaves (recoveryIn head serials rows) p out at (W.Refused 12) out
+  backs : (a : Writing) (after : List ℕ) → ((named : PlaceSet) → Leaves (partsOf h named serials rows) p out at a after) → Backs a after
+  backs a after l = (λ m. in-memory m .0, λ m. in-memory m .1)
+    where
+      in-memory : (mourned : List ℕ) → Leaves (recoveryIn head mourned serials rows) p out at a after
+      in-memory mourned = subst (λ (r : Recovery). Leaves r p out at a after) (held head mourned h (setAt mourned) says refl serials rows) (l (setAt mourned))
+
+  pub back-12 : size (h .count) ≤ p → Backs (W.Refused 12) out
   unfolding sizeOf
-  back-12 l = in-memory (W.Refused 12) out (write-12 (partsOf h serials rows) p out at l)
+  back-12 l = backs (W.Refused 12) out (λ m. write-12 (partsOf h m serials rows) p out at l)
 
   module _ (l : p < size (h .count)) where
-    pub back-14 : has (h .set) p ≡ false → Leaves (recoveryIn head serials rows) p out at (W.Refused 14) out
+    pub back-14 : has (h .set) p ≡ false → Backs (W.Refused 14) out
     unfolding sizeOf
-    back-14 e = in-memory (W.Refused 14) out (write-14 (partsOf h serials rows) p out at l e)
+    back-14 e = backs (W.Refused 14) out (λ m. write-14 (partsOf h m serials rows) p out at l e)
 
     pub back-written : has (h .set) p ≡ true → (n : ℕ) → n ≡ size (h .count) → n ≡ length (take n serials)
         → (row : PlaceSet) → has row ≡ rule.recorded (acceptedIn (h .count) (has (h .set)) rows) p → (a : Writing) (after : List ℕ)
         → (a ≡ written (h .kind) p (take n serials) (has row) out at .answer) × (after ≡ written (h .kind) p (take n serials) (has row) out at .buffer)
-        → Leaves (recoveryIn head serials rows) p out at a after
+        → Backs a after
     unfolding sizeOf acceptedOf
-    back-written b n is all row e a after w = in-memory a after (write-back (partsOf h serials rows) p out at l b n is all row e a after w)
+    back-written b n is all row e a after w = backs a after (λ m. write-back (partsOf h m serials rows) p out at l b n is all row e a after w)
 
 -- ---- where it ends, as two words
 

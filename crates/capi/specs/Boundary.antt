@@ -1,5 +1,5 @@
--- The boundary to C: a recovery or a day as four words, 128 serials and 256 words of rows in the caller's memory, and document
--- 01's answers as numbers. Assumes nothing.
+-- The boundary to C: a recovery or a day as four words, 128 serials and 2,048 bytes of rows in the caller's memory, of a recovery
+-- two words of mourned places too, and document 01's answers as numbers. Assumes nothing.
 use mathlib.Core.Bool.{Bool, cond}
 use mathlib.Core.List.{List, [], _∷_}
 use Prim.Native.Nat.{ℕ}
@@ -56,8 +56,12 @@ setIn head = record { low = getD head 2 0; high = getD head 3 0 }
 unfoldable pub setAt : List ℕ → PlaceSet
 setAt w = record { low = getD w 0 0; high = getD w 1 0 }
 
-unfoldable pub recoveryIn : List ℕ → List ℕ → List ℕ → Recovery
-recoveryIn head serials rows = record { kind = kindIn head; count = getD head 1 0; serials = serials; returned = setIn head; rows = rows }
+unfoldable pub setWords : PlaceSet → List ℕ
+setWords s = s .low ∷ s .high ∷ []
+
+unfoldable pub recoveryIn : List ℕ → List ℕ → List ℕ → List ℕ → Recovery
+recoveryIn head mourned serials rows =
+    record { kind = kindIn head; count = getD head 1 0; serials = serials; returned = setIn head; mourned = setAt mourned; rows = rows }
 
 unfoldable pub dayIn : List ℕ → List ℕ → List ℕ → Day
 dayIn head serials rows = record { kind = kindIn head; count = getD head 1 0; serials = serials; stopped = setIn head; rows = rows }
@@ -69,8 +73,15 @@ headOf k count s = kindByte k ∷ count ∷ s .low ∷ s .high ∷ []
 unfoldable pub withSet : List ℕ → PlaceSet → List ℕ
 withSet head s = getD head 0 0 ∷ getD head 1 0 ∷ s .low ∷ s .high ∷ []
 
--- what a call answers, and the caller's memory after it
+-- what a call answers, and the caller's memory after it: of a recovery, and of a day
 pub record Held : Type 0 where
+  pub code : ℕ
+  pub head : List ℕ
+  pub mourned : List ℕ
+  pub serials : List ℕ
+  pub rows : List ℕ
+
+pub record DayHeld : Type 0 where
   pub code : ℕ
   pub head : List ℕ
   pub serials : List ℕ
@@ -115,33 +126,35 @@ endOf (W.Refused j) = record { refusal = j; next = 0 }
 
 -- the two words of a set of places
 unfoldable pub wordsOf : Places → List ℕ
-wordsOf S = packed S .low ∷ packed S .high ∷ []
+wordsOf S = setWords (packed S)
 
 -- ---- opening: the caller's memory is written only where it is opened
 
-unfoldable pub openedAs : Opening → Recovery → List ℕ → List ℕ → List ℕ → Held
-openedAs G.Opened r head serials rows = record { code = 0; head = headOf (r .kind) (r .count) (r .returned); serials = r .serials; rows = r .rows }
-openedAs (G.Refused j) r head serials rows = record { code = j; head = head; serials = serials; rows = rows }
+unfoldable pub openedAs : Opening → Recovery → List ℕ → List ℕ → List ℕ → List ℕ → Held
+openedAs G.Opened r head mourned serials rows =
+    record { code = 0; head = headOf (r .kind) (r .count) (r .returned); mourned = setWords (r .mourned); serials = r .serials; rows = r .rows }
+openedAs (G.Refused j) r head mourned serials rows = record { code = j; head = head; mourned = mourned; serials = serials; rows = rows }
 
-unfoldable pub openedHeld : ℕ → List ℕ → List ℕ → List ℕ → List ℕ → Held
-openedHeld kind s head serials rows = openedAs (opened kind s .answer) (opened kind s .recovery) head serials rows
+unfoldable pub openedHeld : ℕ → List ℕ → List ℕ → List ℕ → List ℕ → List ℕ → Held
+openedHeld kind s head mourned serials rows = openedAs (opened kind s .answer) (opened kind s .recovery) head mourned serials rows
 
-unfoldable pub begunAs : day.Opening → Day → List ℕ → List ℕ → List ℕ → Held
+unfoldable pub begunAs : day.Opening → Day → List ℕ → List ℕ → List ℕ → DayHeld
 begunAs B.Opened d head serials rows = record { code = 0; head = headOf (d .kind) (d .count) (d .stopped); serials = d .serials; rows = d .rows }
 begunAs (B.Refused j) d head serials rows = record { code = j; head = head; serials = serials; rows = rows }
 
-unfoldable pub begunHeld : ℕ → List ℕ → List ℕ → List ℕ → List ℕ → Held
+unfoldable pub begunHeld : ℕ → List ℕ → List ℕ → List ℕ → List ℕ → DayHeld
 begunHeld kind s head serials rows = begunAs (begun kind s .answer) (begun kind s .day) head serials rows
 
 -- ---- offering a lone record
 
-unfoldable pub offeredHeld : List ℕ → List ℕ → List ℕ → List ℕ → Held
-offeredHeld head serials rows bytes =
+unfoldable pub offeredHeld : List ℕ → List ℕ → List ℕ → List ℕ → List ℕ → Held
+offeredHeld head mourned serials rows bytes =
     record {
-      code = replyCode (offered (recoveryIn head serials rows) bytes .answer);
-      head = withSet head (offered (recoveryIn head serials rows) bytes .recovery .returned);
+      code = replyCode (offered (recoveryIn head mourned serials rows) bytes .answer);
+      head = withSet head (offered (recoveryIn head mourned serials rows) bytes .recovery .returned);
+      mourned = setWords (offered (recoveryIn head mourned serials rows) bytes .recovery .mourned);
       serials = serials;
-      rows = offered (recoveryIn head serials rows) bytes .recovery .rows;
+      rows = offered (recoveryIn head mourned serials rows) bytes .recovery .rows;
     }
 
 -- ---- one event of a day
@@ -149,7 +162,7 @@ offeredHeld head serials rows bytes =
 unfoldable pub eventOf : ℕ → ℕ → ℕ → Event
 eventOf kind place other = record { kind = kind; place = record { 0 = place }; other = record { 0 = other } }
 
-unfoldable pub happenedHeld : List ℕ → List ℕ → List ℕ → Event → Held
+unfoldable pub happenedHeld : List ℕ → List ℕ → List ℕ → Event → DayHeld
 happenedHeld head serials rows e =
     record {
       code = happened (dayIn head serials rows) e .refusal;

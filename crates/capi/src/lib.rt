@@ -1,5 +1,5 @@
-// The library as C links it. A recovery and a day are three arrays in the caller's memory: four words (the kind, the count, two words of
-// the places that are back, or have stopped), 128 serials, 256 words of rows. Nothing is kept between calls, and every input has an
+// The library as C links it. A recovery and a day are arrays in the caller's memory: four words (the kind, the count, two words of the
+// places that are back, or have stopped), 128 serials, 2,048 bytes of rows, and of a recovery two words of its mourned places. Nothing is kept between calls, and every input has an
 // answer: include/goatmonth.h says what a caller promises of its pointers. specs/Boundary.antt has the numbers of the answers.
 ghost use mathlib.Core.Path.{_≡_};
 ghost use mathlib.Core.Bool.{cond};
@@ -13,7 +13,7 @@ ghost use Rattle.records.specs.Layout.{kindByte};
 ghost use Rattle.records.specs.Records.{reading, readingLone, rosterIs, copiable, copied};
 ghost use Rattle.recovery.specs.Contracts.{answered, asked, shown, checked, settledOf, unmournedOf, unmournedAbsentOf, unmournedCountOf, foundIn, writtenOf};
 ghost use Rattle.executions.specs.Contracts as days;
-ghost use Rattle.capi.specs.Boundary.{kindIn, setIn, recoveryIn, dayIn, setAt, eventOf, headOf, withSet, openedHeld, begunHeld, offeredHeld, happenedHeld, dayOf, dayNow, playedNow, steppedNow, replyCode, askedCode, showingCode, checkedCode, yesCode, foundCode, endOf, wordsOf, readCode, readWords, writtenParts};
+ghost use Rattle.capi.specs.Boundary.{kindIn, setIn, recoveryIn, dayIn, setAt, setWords, eventOf, headOf, withSet, openedHeld, begunHeld, offeredHeld, happenedHeld, dayOf, dayNow, playedNow, steppedNow, replyCode, askedCode, showingCode, checkedCode, yesCode, foundCode, endOf, wordsOf, readCode, readWords, writtenParts};
 use answers::Answer;
 use executions::Day;
 use executions::Event;
@@ -41,7 +41,7 @@ pub struct End {
 pub struct DayNow {
     pub head: [u64; 4],
     pub serials: [u32; 128],
-    pub rows: [u64; 256],
+    pub rows: [u8; 2048],
 }
 
 // An event: of kind 1 `place` stops, of kind 2 `place` hears that `other` has stopped.
@@ -120,6 +120,25 @@ fn write_set(head: &mut [u64; 4], set: PlaceSet)
     *head = words;
 }
 
+// ---- two words of places alone
+
+fn read_set(words: &[u64]) -> PlaceSet
+    requires { ⌜ length (now words) ≡ 2 ⌝ }
+    ensures { λ s. ⌜ s ≡ setAt (now (words .entry)) ⌝ }
+{
+    PlaceSet {
+        low: words[0],
+        high: words[1],
+    }
+}
+
+fn put_set(out: &mut [u64; 2], s: PlaceSet)
+    ensures { λ r. ⌜ now (out .exit) ≡ setWords s ⌝ }
+{
+    let pair = [s.low, s.high];
+    *out = pair;
+}
+
 // ---- answers as numbers
 
 fn yes_code(b: bool) -> u8
@@ -173,24 +192,28 @@ pub extern "C" fn gm_open(
     kind: u8,
     list: &[u32],
     head: &mut [u64; 4],
+    mourned: &mut [u64; 2],
     serials: &mut [u32; 128],
-    rows: &mut [u64; 256],
+    rows: &mut [u8; 2048],
 ) -> u8
-    ensures { λ r. ⌜ r ≡ openedHeld kind (now (list .entry)) (now (head .entry)) (now (serials .entry)) (now (rows .entry)) .code ⌝ }
-    ensures { λ r. ⌜ now (head .exit) ≡ openedHeld kind (now (list .entry)) (now (head .entry)) (now (serials .entry)) (now (rows .entry)) .head ⌝ }
-    ensures { λ r. ⌜ now (serials .exit) ≡ openedHeld kind (now (list .entry)) (now (head .entry)) (now (serials .entry)) (now (rows .entry)) .serials ⌝ }
-    ensures { λ r. ⌜ now (rows .exit) ≡ openedHeld kind (now (list .entry)) (now (head .entry)) (now (serials .entry)) (now (rows .entry)) .rows ⌝ }
+    ensures { λ r. ⌜ r ≡ openedHeld kind (now (list .entry)) (now (head .entry)) (now (mourned .entry)) (now (serials .entry)) (now (rows .entry)) .code ⌝ }
+    ensures { λ r. ⌜ now (head .exit) ≡ openedHeld kind (now (list .entry)) (now (head .entry)) (now (mourned .entry)) (now (serials .entry)) (now (rows .entry)) .head ⌝ }
+    ensures { λ r. ⌜ now (mourned .exit) ≡ openedHeld kind (now (list .entry)) (now (head .entry)) (now (mourned .entry)) (now (serials .entry)) (now (rows .entry)) .mourned ⌝ }
+    ensures { λ r. ⌜ now (serials .exit) ≡ openedHeld kind (now (list .entry)) (now (head .entry)) (now (mourned .entry)) (now (serials .entry)) (now (rows .entry)) .serials ⌝ }
+    ensures { λ r. ⌜ now (rows .exit) ≡ openedHeld kind (now (list .entry)) (now (head .entry)) (now (mourned .entry)) (now (serials .entry)) (now (rows .entry)) .rows ⌝ }
 {
     let opened = recovery::open(kind, list);
     let answer = opened.answer;
     let r = opened.recovery;
     let kind = r.kind;
     let returned = r.returned;
+    let named = r.mourned;
     let roster = r.serials;
     let recorded = r.rows;
     match answer {
         Opening::Opened => {
             write_head(head, kind, r.count, returned);
+            put_set(mourned, named);
             *serials = roster;
             *rows = recorded;
             0
@@ -199,24 +222,29 @@ pub extern "C" fn gm_open(
     }
 }
 
-// What a reply to the record of a place leaves, and its number: one that is taken is kept. Whatever the serials are.
+// What a reply to the record of a place leaves, and its number: one that is taken is kept, and joins those named. Whatever the serials are.
 fn answer_with(
     head: &mut [u64; 4],
-    rows: &mut [u64; 256],
+    mourned: &mut [u64; 2],
+    rows: &mut [u8; 2048],
+    named: PlaceSet,
     own: Place,
-    mourned: PlaceSet,
+    row: PlaceSet,
     reply: Reply,
 ) -> u8
+    requires { ⌜ (length (now mourned) ≡ 2) × (named ≡ setAt (now mourned)) ⌝ }
     ensures { λ r. ⌜ r ≡ replyCode reply ⌝ }
-    ensures { λ r. ⌜ ((serials : List ℕ) → now (head .exit) ≡ withSet (now (head .entry)) (answered (recoveryIn (now (head .entry)) serials (now (rows .entry))) (own .0) (has mourned) reply .recovery .returned)) ⌝ }
-    ensures { λ r. ⌜ ((serials : List ℕ) → now (rows .exit) ≡ answered (recoveryIn (now (head .entry)) serials (now (rows .entry))) (own .0) (has mourned) reply .recovery .rows) ⌝ }
+    ensures { λ r. ⌜ ((serials : List ℕ) → now (head .exit) ≡ withSet (now (head .entry)) (answered (recoveryIn (now (head .entry)) (now (mourned .entry)) serials (now (rows .entry))) (own .0) (has row) reply .recovery .returned)) ⌝ }
+    ensures { λ r. ⌜ ((serials : List ℕ) → now (mourned .exit) ≡ setWords (answered (recoveryIn (now (head .entry)) (now (mourned .entry)) serials (now (rows .entry))) (own .0) (has row) reply .recovery .mourned)) ⌝ }
+    ensures { λ r. ⌜ ((serials : List ℕ) → now (rows .exit) ≡ answered (recoveryIn (now (head .entry)) (now (mourned .entry)) serials (now (rows .entry))) (own .0) (has row) reply .recovery .rows) ⌝ }
 {
     let h = read_head(head);
     let returned = h.set;
     match reply {
         Reply::Taken => {
             write_set(head, places::with(returned, own));
-            rows::set(rows, own, mourned);
+            put_set(mourned, places::union(named, row));
+            rows::set(rows, own, row);
             0
         }
         Reply::Repeated => 32,
@@ -228,24 +256,27 @@ fn answer_with(
 #[no_mangle]
 pub extern "C" fn gm_offer(
     head: &mut [u64; 4],
+    mourned: &mut [u64; 2],
     serials: &[u32; 128],
-    rows: &mut [u64; 256],
+    rows: &mut [u8; 2048],
     bytes: &[u8],
 ) -> u8
-    ensures { λ r. ⌜ r ≡ offeredHeld (now (head .entry)) (now (serials .entry)) (now (rows .entry)) (now (bytes .entry)) .code ⌝ }
-    ensures { λ r. ⌜ now (head .exit) ≡ offeredHeld (now (head .entry)) (now (serials .entry)) (now (rows .entry)) (now (bytes .entry)) .head ⌝ }
-    ensures { λ r. ⌜ now (rows .exit) ≡ offeredHeld (now (head .entry)) (now (serials .entry)) (now (rows .entry)) (now (bytes .entry)) .rows ⌝ }
+    ensures { λ r. ⌜ r ≡ offeredHeld (now (head .entry)) (now (mourned .entry)) (now (serials .entry)) (now (rows .entry)) (now (bytes .entry)) .code ⌝ }
+    ensures { λ r. ⌜ now (head .exit) ≡ offeredHeld (now (head .entry)) (now (mourned .entry)) (now (serials .entry)) (now (rows .entry)) (now (bytes .entry)) .head ⌝ }
+    ensures { λ r. ⌜ now (mourned .exit) ≡ offeredHeld (now (head .entry)) (now (mourned .entry)) (now (serials .entry)) (now (rows .entry)) (now (bytes .entry)) .mourned ⌝ }
+    ensures { λ r. ⌜ now (rows .exit) ≡ offeredHeld (now (head .entry)) (now (mourned .entry)) (now (serials .entry)) (now (rows .entry)) (now (bytes .entry)) .rows ⌝ }
 {
     let h = read_head(head);
     let kind = h.kind;
     let returned = h.set;
+    let named = read_set(mourned);
     let got = records::read_lone(bytes);
     match got {
         Reading::Read(x) => {
             let reply = replies::judge(kind, h.count, serials, returned, rows, bytes, x);
             let own = x.own;
-            let mourned = x.mourned;
-            answer_with(head, rows, own, mourned, reply)
+            let row = x.mourned;
+            answer_with(head, mourned, rows, named, own, row, reply)
         }
         Reading::Refused(fault) => fault,
     }
@@ -253,18 +284,19 @@ pub extern "C" fn gm_offer(
 
 // Asks for a place: 12, 33 last, 34 not last, 35 open. Whatever the serials are.
 #[no_mangle]
-pub extern "C" fn gm_ask(head: &[u64; 4], rows: &[u64; 256], place: usize) -> u8
-    ensures { λ r. ⌜ ((serials : List ℕ) → r ≡ askedCode (asked (recoveryIn (now (head .entry)) serials (now (rows .entry))) place)) ⌝ }
+pub extern "C" fn gm_ask(head: &[u64; 4], mourned: &[u64; 2], rows: &[u8; 2048], place: usize) -> u8
+    ensures { λ r. ⌜ ((serials : List ℕ) → r ≡ askedCode (asked (recoveryIn (now (head .entry)) (now (mourned .entry)) serials (now (rows .entry))) place)) ⌝ }
 {
     let h = read_head(head);
     let kind = h.kind;
     let returned = h.set;
     let count = h.count;
+    let named = read_set(mourned);
     let n = answers::size(count);
     if n <= place {
         return 12;
     }
-    let answer = answers::answer_for(kind, rows, returned, count, Place(place));
+    let answer = answers::answer_for(kind, rows, returned, named, count, Place(place));
     match answer {
         Answer::Last => 33,
         Answer::NotLast => 34,
@@ -274,63 +306,57 @@ pub extern "C" fn gm_ask(head: &[u64; 4], rows: &[u64; 256], place: usize) -> u8
 
 // Whether no place is open: 1 or 0. Whatever the serials are.
 #[no_mangle]
-pub extern "C" fn gm_settled(head: &[u64; 4], rows: &[u64; 256]) -> u8
-    ensures { λ r. ⌜ ((serials : List ℕ) → r ≡ yesCode (settledOf (recoveryIn (now (head .entry)) serials (now (rows .entry))))) ⌝ }
+pub extern "C" fn gm_settled(head: &[u64; 4], mourned: &[u64; 2], rows: &[u8; 2048]) -> u8
+    ensures { λ r. ⌜ ((serials : List ℕ) → r ≡ yesCode (settledOf (recoveryIn (now (head .entry)) (now (mourned .entry)) serials (now (rows .entry))))) ⌝ }
 {
     let h = read_head(head);
     let kind = h.kind;
     let returned = h.set;
     let count = h.count;
-    let settled = answers::settled(kind, rows, returned, count);
+    let named = read_set(mourned);
+    let settled = answers::settled(kind, rows, returned, named, count);
     yes_code(settled)
 }
 
-// The two words of a set.
-fn put_set(out: &mut [u64; 2], s: PlaceSet)
-    ensures { λ r. ⌜ now (out .exit) ≡ s .low ∷ s .high ∷ [] ⌝ }
-{
-    let pair = [s.low, s.high];
-    *out = pair;
-}
-
-// The unmourned places, as two words. Whatever the serials are.
+// The unmourned places, as two words. Whatever the serials and the rows are.
 #[no_mangle]
-pub extern "C" fn gm_unmourned(head: &[u64; 4], rows: &[u64; 256], out: &mut [u64; 2])
-    ensures { λ r. ⌜ ((serials : List ℕ) → now (out .exit) ≡ wordsOf (unmournedOf (recoveryIn (now (head .entry)) serials (now (rows .entry))))) ⌝ }
+pub extern "C" fn gm_unmourned(head: &[u64; 4], mourned: &[u64; 2], out: &mut [u64; 2])
+    ensures { λ r. ⌜ ((serials rows : List ℕ) → now (out .exit) ≡ wordsOf (unmournedOf (recoveryIn (now (head .entry)) (now (mourned .entry)) serials rows))) ⌝ }
 {
     let h = read_head(head);
-    let returned = h.set;
-    let all = answers::unmourned(rows, returned, h.count);
+    let named = read_set(mourned);
+    let all = answers::unmourned(named, h.count);
     put_set(out, all);
 }
 
-// The unmourned places that are absent, as two words. Whatever the serials are.
+// The unmourned places that are absent, as two words. Whatever the serials and the rows are.
 #[no_mangle]
-pub extern "C" fn gm_unmourned_absent(head: &[u64; 4], rows: &[u64; 256], out: &mut [u64; 2])
-    ensures { λ r. ⌜ ((serials : List ℕ) → now (out .exit) ≡ wordsOf (unmournedAbsentOf (recoveryIn (now (head .entry)) serials (now (rows .entry))))) ⌝ }
+pub extern "C" fn gm_unmourned_absent(head: &[u64; 4], mourned: &[u64; 2], out: &mut [u64; 2])
+    ensures { λ r. ⌜ ((serials rows : List ℕ) → now (out .exit) ≡ wordsOf (unmournedAbsentOf (recoveryIn (now (head .entry)) (now (mourned .entry)) serials rows))) ⌝ }
 {
     let h = read_head(head);
     let returned = h.set;
-    let all = answers::unmourned(rows, returned, h.count);
+    let named = read_set(mourned);
+    let all = answers::unmourned(named, h.count);
     let absent = places::difference(all, returned);
     put_set(out, absent);
 }
 
-// How many are unmourned. Whatever the serials are.
+// How many are unmourned. Whatever the serials and the rows are.
 #[no_mangle]
-pub extern "C" fn gm_unmourned_count(head: &[u64; 4], rows: &[u64; 256]) -> usize
-    ensures { λ r. ⌜ ((serials : List ℕ) → r ≡ unmournedCountOf (recoveryIn (now (head .entry)) serials (now (rows .entry)))) ⌝ }
+pub extern "C" fn gm_unmourned_count(head: &[u64; 4], mourned: &[u64; 2]) -> usize
+    ensures { λ r. ⌜ ((serials rows : List ℕ) → r ≡ unmournedCountOf (recoveryIn (now (head .entry)) (now (mourned .entry)) serials rows)) ⌝ }
 {
     let h = read_head(head);
-    let returned = h.set;
-    let all = answers::unmourned(rows, returned, h.count);
+    let named = read_set(mourned);
+    let all = answers::unmourned(named, h.count);
     places::count(all)
 }
 
-// Checks a lent history: 13, 15, 37 fits, 38 fits not. Whatever the serials are.
+// Checks a lent history: 13, 15, 37 fits, 38 fits not. Whatever the mourned places and the serials are.
 #[no_mangle]
-pub extern "C" fn gm_check(head: &[u64; 4], rows: &[u64; 256], history: &[u8]) -> u8
-    ensures { λ r. ⌜ ((serials : List ℕ) → r ≡ checkedCode (checked (recoveryIn (now (head .entry)) serials (now (rows .entry))) (now (history .entry)))) ⌝ }
+pub extern "C" fn gm_check(head: &[u64; 4], rows: &[u8; 2048], history: &[u8]) -> u8
+    ensures { λ r. ⌜ ((mourned serials : List ℕ) → r ≡ checkedCode (checked (recoveryIn (now (head .entry)) mourned serials (now (rows .entry))) (now (history .entry)))) ⌝ }
 {
     let h = read_head(head);
     let kind = h.kind;
@@ -353,20 +379,31 @@ pub extern "C" fn gm_check(head: &[u64; 4], rows: &[u64; 256], history: &[u8]) -
 #[no_mangle]
 pub extern "C" fn gm_show(
     head: &[u64; 4],
-    rows: &[u64; 256],
+    mourned: &[u64; 2],
+    rows: &[u8; 2048],
     place: usize,
     first: &mut [u8],
     second: &mut [u8],
 ) -> u8
-    ensures { λ r. ⌜ ((serials : List ℕ) → r ≡ showingCode (shown (recoveryIn (now (head .entry)) serials (now (rows .entry))) place (now (first .entry)) (now (second .entry)) .answer)) ⌝ }
-    ensures { λ r. ⌜ ((serials : List ℕ) → now (first .exit) ≡ shown (recoveryIn (now (head .entry)) serials (now (rows .entry))) place (now (first .entry)) (now (second .entry)) .first) ⌝ }
-    ensures { λ r. ⌜ ((serials : List ℕ) → now (second .exit) ≡ shown (recoveryIn (now (head .entry)) serials (now (rows .entry))) place (now (first .entry)) (now (second .entry)) .second) ⌝ }
+    ensures { λ r. ⌜ ((serials : List ℕ) → r ≡ showingCode (shown (recoveryIn (now (head .entry)) (now (mourned .entry)) serials (now (rows .entry))) place (now (first .entry)) (now (second .entry)) .answer)) ⌝ }
+    ensures { λ r. ⌜ ((serials : List ℕ) → now (first .exit) ≡ shown (recoveryIn (now (head .entry)) (now (mourned .entry)) serials (now (rows .entry))) place (now (first .entry)) (now (second .entry)) .first) ⌝ }
+    ensures { λ r. ⌜ ((serials : List ℕ) → now (second .exit) ≡ shown (recoveryIn (now (head .entry)) (now (mourned .entry)) serials (now (rows .entry))) place (now (first .entry)) (now (second .entry)) .second) ⌝ }
 {
     let h = read_head(head);
     let kind = h.kind;
     let returned = h.set;
     let count = h.count;
-    let answer = shows::show(kind, rows, returned, count, Place(place), first, second);
+    let named = read_set(mourned);
+    let answer = shows::show(
+        kind,
+        rows,
+        returned,
+        named,
+        count,
+        Place(place),
+        first,
+        second,
+    );
     showing_code(answer)
 }
 
@@ -378,10 +415,10 @@ fn find_among(serials: &[u32], n: usize, serial: Serial) -> Found
     rosters::find(&serials[..n], serial)
 }
 
-// The place of a serial, or 128. Whatever the rows are.
+// The place of a serial, or 128. Whatever the mourned places and the rows are.
 #[no_mangle]
 pub extern "C" fn gm_find(head: &[u64; 4], serials: &[u32; 128], serial: u32) -> usize
-    ensures { λ r. ⌜ ((rows : List ℕ) → r ≡ foundCode (foundIn (recoveryIn (now (head .entry)) (now (serials .entry)) rows) serial)) ⌝ }
+    ensures { λ r. ⌜ ((mourned rows : List ℕ) → r ≡ foundCode (foundIn (recoveryIn (now (head .entry)) mourned (now (serials .entry)) rows) serial)) ⌝ }
 {
     let h = read_head(head);
     let n = answers::size(h.count);
@@ -393,14 +430,14 @@ pub extern "C" fn gm_find(head: &[u64; 4], serials: &[u32; 128], serial: u32) ->
 fn write_back(
     head: &[u64; 4],
     serials: &[u32],
-    rows: &[u64; 256],
+    rows: &[u8; 2048],
     place: Place,
     out: &mut [u8],
     at: usize,
 ) -> Writing
     requires { ⌜ length (now serials) ≡ 128 ⌝ }
-    ensures { λ r. ⌜ r ≡ writtenOf (recoveryIn (now (head .entry)) (now (serials .entry)) (now (rows .entry))) (place .0) (now (out .entry)) at .answer ⌝ }
-    ensures { λ r. ⌜ now (out .exit) ≡ writtenOf (recoveryIn (now (head .entry)) (now (serials .entry)) (now (rows .entry))) (place .0) (now (out .entry)) at .buffer ⌝ }
+    ensures { λ r. ⌜ ((mourned : List ℕ) → r ≡ writtenOf (recoveryIn (now (head .entry)) mourned (now (serials .entry)) (now (rows .entry))) (place .0) (now (out .entry)) at .answer) ⌝ }
+    ensures { λ r. ⌜ ((mourned : List ℕ) → now (out .exit) ≡ writtenOf (recoveryIn (now (head .entry)) mourned (now (serials .entry)) (now (rows .entry))) (place .0) (now (out .entry)) at .buffer) ⌝ }
 {
     let h = read_head(head);
     let kind = h.kind;
@@ -421,13 +458,13 @@ fn write_back(
 pub extern "C" fn gm_write(
     head: &[u64; 4],
     serials: &[u32; 128],
-    rows: &[u64; 256],
+    rows: &[u8; 2048],
     place: usize,
     out: &mut [u8],
     at: usize,
 ) -> End
-    ensures { λ r. ⌜ r ≡ endOf (writtenOf (recoveryIn (now (head .entry)) (now (serials .entry)) (now (rows .entry))) place (now (out .entry)) at .answer) ⌝ }
-    ensures { λ r. ⌜ now (out .exit) ≡ writtenOf (recoveryIn (now (head .entry)) (now (serials .entry)) (now (rows .entry))) place (now (out .entry)) at .buffer ⌝ }
+    ensures { λ r. ⌜ ((mourned : List ℕ) → r ≡ endOf (writtenOf (recoveryIn (now (head .entry)) mourned (now (serials .entry)) (now (rows .entry))) place (now (out .entry)) at .answer)) ⌝ }
+    ensures { λ r. ⌜ ((mourned : List ℕ) → now (out .exit) ≡ writtenOf (recoveryIn (now (head .entry)) mourned (now (serials .entry)) (now (rows .entry))) place (now (out .entry)) at .buffer) ⌝ }
 {
     let answer = write_back(head, serials, rows, Place(place), out, at);
     end_of(answer)
@@ -537,7 +574,7 @@ pub extern "C" fn gm_day_open(
     list: &[u32],
     head: &mut [u64; 4],
     serials: &mut [u32; 128],
-    rows: &mut [u64; 256],
+    rows: &mut [u8; 2048],
 ) -> u8
     ensures { λ r. ⌜ r ≡ begunHeld kind (now (list .entry)) (now (head .entry)) (now (serials .entry)) (now (rows .entry)) .code ⌝ }
     ensures { λ r. ⌜ now (head .exit) ≡ begunHeld kind (now (list .entry)) (now (head .entry)) (now (serials .entry)) (now (rows .entry)) .head ⌝ }
@@ -563,7 +600,7 @@ pub extern "C" fn gm_day_open(
 }
 
 // The day in the caller's memory.
-fn day_in(head: &[u64; 4], serials: &[u32; 128], rows: &[u64; 256]) -> Day
+fn day_in(head: &[u64; 4], serials: &[u32; 128], rows: &[u8; 2048]) -> Day
     ensures { λ d. ⌜ d ≡ dayIn (now (head .entry)) (now (serials .entry)) (now (rows .entry)) ⌝ }
 {
     let h = read_head(head);
@@ -585,7 +622,7 @@ fn day_in(head: &[u64; 4], serials: &[u32; 128], rows: &[u64; 256]) -> Day
 pub extern "C" fn gm_day_event(
     head: &mut [u64; 4],
     serials: &[u32; 128],
-    rows: &mut [u64; 256],
+    rows: &mut [u8; 2048],
     kind: u8,
     place: usize,
     other: usize,
@@ -614,7 +651,7 @@ pub extern "C" fn gm_day_event(
 pub extern "C" fn gm_day_write(
     head: &[u64; 4],
     serials: &[u32; 128],
-    rows: &[u64; 256],
+    rows: &[u8; 2048],
     place: usize,
     out: &mut [u8],
     at: usize,

@@ -1,29 +1,37 @@
 // The check of a lent history: its rows stand at the front of some bytes, 16 bytes each, in roster order. `count` is the roster's length (one
 // above 128 counts as 128).
 ghost use mathlib.Core.Path.{_≡_};
-ghost use mathlib.Core.Bool.{not, _&&_, _||_};
-ghost use Prim.Native.Nat.{ℕ, _<_, _≤_};
+ghost use mathlib.Core.Bool.{true, false, not, _&&_, _||_};
+ghost use Prim.Native.Nat.{ℕ, _-_, _<_, _≤_};
 ghost use lib.Dec.{leb};
-ghost use lib.ListN.{length};
-ghost use Rattle.places.specs.Sets.{any, all, subset, same};
+ghost use lib.ListN.{getD};
+ghost use Rattle.places.specs.Sets.{intersection, any, all, same};
 ghost use Rattle.places.specs.PlaceSets.{has};
 ghost use Rattle.rows.specs.Rows.{rowsOf, historyIn};
 ghost use Rattle.histories.specs.Rule.{reach, closedRows, fitsTest};
 ghost use Rattle.histories.specs.declared.Kind.the-variants.{Full};
 ghost use Rattle.answers.specs.Views.{size, acceptedIn};
-ghost use Rattle.checks.specs.Checks.{offRoster};
+ghost use Rattle.checks.specs.Checks.{offRoster, Covered};
 use histories::Kind;
 use places::Found;
 use places::Place;
 use places::PlaceSet;
 use rows::Rows;
 
+// The lent row of a place, as it is in the history of every roster that has the place.
+fn lent_row(history: &[u8], p: usize) -> PlaceSet
+    requires { ⌜ p < 128 ⌝ }
+    ensures { λ r. ⌜ ((n : ℕ) → p < n → has r ≡ historyIn n (now (history .entry)) p) ⌝ }
+{
+    rows::read(history, 16 * p)
+}
+
 // Whether the row of a place of the roster has a place off it.
 fn row_off_roster(history: &[u8], n: usize, p: usize) -> bool
     requires { ⌜ (n ≤ 128) × (p < n) ⌝ }
     ensures { λ r. ⌜ r ≡ any 128 (λ q. leb n q && historyIn n (now (history .entry)) p q) ⌝ }
 {
-    let row = rows::read(history, 16 * p);
+    let row = lent_row(history, p);
     let off = places::difference(row, places::below(n));
     !places::is_empty(off)
 }
@@ -43,95 +51,78 @@ pub fn off_roster(history: &[u8], count: usize) -> bool
     false
 }
 
-// The n lent rows in a table, empty rows for the places that have none.
-fn load(history: &[u8], n: usize) -> Rows
-    requires { ⌜ n ≤ 128 ⌝ }
-    ensures { λ r. ⌜ rowsOf r ≡ historyIn n (now (history .entry)) ⌝ }
-{
-    let mut table = rows::none();
-    let mut p = 0;
-    while p < n {
-        let lent = rows::read(history, 16 * p);
-        rows::set(&mut table, Place(p), lent);
-        p += 1;
-    }
-    table
-}
-
-// Whether the row of p, if p is back, is the recorded one as far as the roster goes.
-fn row_recorded(table: &Rows, rows: &Rows, returned: PlaceSet, n: usize, p: usize) -> bool
+// Whether the lent row of p is the recorded one as far as the roster goes.
+fn row_recorded(history: &[u8], rows: &Rows, n: usize, p: usize) -> bool
     requires { ⌜ (n ≤ 128) × (p < n) ⌝ }
-    ensures { λ r. ⌜ r ≡ (not (has returned p) || same n (rowsOf (now (table .entry)) p) (rowsOf (now (rows .entry)) p)) ⌝ }
+    ensures { λ r. ⌜ r ≡ same n (historyIn n (now (history .entry)) p) (rowsOf (now (rows .entry)) p) ⌝ }
 {
-    if !places::contains(returned, Place(p)) {
-        return true;
-    }
     let roster = places::below(n);
-    let lent = places::intersection(rows::get(table, Place(p)), roster);
+    let lent = places::intersection(lent_row(history, p), roster);
     let recorded = places::intersection(rows::get(rows, Place(p)), roster);
     places::same(lent, recorded)
 }
 
 // Whether the row of each returned place is the recorded one.
-fn all_recorded(table: &Rows, rows: &Rows, returned: PlaceSet, n: usize) -> bool
+fn all_recorded(history: &[u8], rows: &Rows, returned: PlaceSet, n: usize) -> bool
     requires { ⌜ n ≤ 128 ⌝ }
-    ensures { λ r. ⌜ r ≡ all n (λ p. not (has returned p) || same n (rowsOf (now (table .entry)) p) (rowsOf (now (rows .entry)) p)) ⌝ }
+    ensures { λ r. ⌜ r ≡ all n (λ p. not (has returned p) || same n (historyIn n (now (history .entry)) p) (rowsOf (now (rows .entry)) p)) ⌝ }
 {
-    let mut p = 0;
-    while p < n {
-        if !row_recorded(table, rows, returned, n, p) {
+    let mut left = places::intersection(returned, places::below(n));
+    loop {
+        let found = places::lowest(left);
+        let Found::At(p) = found else {
+            return true;
+        };
+        if !row_recorded(history, rows, n, p.0) {
             return false;
         }
-        p += 1;
+        left = places::without(left, p);
     }
-    true
 }
 
-// Whether no place stands in its own row.
-fn none_in_own(table: &Rows, n: usize) -> bool
-    requires { ⌜ n ≤ 128 ⌝ }
-    ensures { λ r. ⌜ r ≡ all n (λ p. not (rowsOf (now (table .entry)) p p)) ⌝ }
+// Whether a place stands in its own row.
+fn in_own(history: &[u8], p: usize) -> bool
+    requires { ⌜ p < 128 ⌝ }
+    ensures { λ r. ⌜ ((n : ℕ) → p < n → r ≡ historyIn n (now (history .entry)) p p) ⌝ }
 {
-    let mut p = 0;
-    while p < n {
-        let row = rows::get(table, Place(p));
-        if places::contains(row, Place(p)) {
-            return false;
-        }
-        p += 1;
-    }
-    true
+    let row = lent_row(history, p);
+    places::contains(row, Place(p))
 }
 
-// Whether the row of p holds the rows of its members, as far as the roster goes.
-fn row_closed(table: &Rows, n: usize, p: usize) -> bool
+// Whether the row of p holds the rows of its members, as far as the roster goes. One that stands in the row of another is not looked at: that
+// row has its own turn.
+fn row_closed(history: &[u8], n: usize, p: usize) -> bool
     requires { ⌜ (n ≤ 128) × (p < n) ⌝ }
-    ensures { λ r. ⌜ r ≡ all n (λ m. not (rowsOf (now (table .entry)) p m) || subset n (rowsOf (now (table .entry)) m) (rowsOf (now (table .entry)) p)) ⌝ }
+    ensures { λ r. ⌜ (r ≡ true → (m : ℕ) → m < n → historyIn n (now (history .entry)) p m ≡ true → Covered n (historyIn n (now (history .entry))) p m) ⌝ }
+    ensures { λ r. ⌜ (r ≡ false → closedRows Full n (historyIn n (now (history .entry))) ≡ false) ⌝ }
 {
     let roster = places::below(n);
-    let row = rows::get(table, Place(p));
+    let row = lent_row(history, p);
     let mut left = places::intersection(row, roster);
     loop {
         let found = places::lowest(left);
         let Found::At(m) = found else {
             return true;
         };
-        let inner = places::intersection(rows::get(table, m), roster);
+        let inner = places::intersection(lent_row(history, m.0), roster);
         if !places::is_subset(inner, row) {
             return false;
         }
-        left = places::without(left, m);
+        left = places::without(places::difference(left, inner), m);
     }
 }
 
-// Whether each row holds the rows of its members.
-fn all_closed(table: &Rows, n: usize) -> bool
+// Full kind: no place is in its own row, and the rows are closed, so that what is before a place stands in its row.
+fn sound_full(history: &[u8], n: usize) -> bool
     requires { ⌜ n ≤ 128 ⌝ }
-    ensures { λ r. ⌜ r ≡ closedRows Full n (rowsOf (now (table .entry))) ⌝ }
+    ensures { λ r. ⌜ r ≡ (all n (λ p. not (reach n (historyIn n (now (history .entry))) p p)) && closedRows Full n (historyIn n (now (history .entry)))) ⌝ }
 {
     let mut p = 0;
     while p < n {
-        if !row_closed(table, n, p) {
+        if in_own(history, p) {
+            return false;
+        }
+        if !row_closed(history, n, p) {
             return false;
         }
         p += 1;
@@ -139,63 +130,57 @@ fn all_closed(table: &Rows, n: usize) -> bool
     true
 }
 
-// A row after a round: with all of another row, if it holds that row's place.
-fn taking_in(row: PlaceSet, place: Place, other: PlaceSet) -> PlaceSet
-    ensures { λ r. ⌜ ((q : ℕ) → has r q ≡ (has row q || has row (place .0) && has other q)) ⌝ }
+// Whether two sets have a member in common.
+fn meets(a: PlaceSet, b: PlaceSet) -> bool
+    ensures { λ r. ⌜ r ≡ any 128 (intersection (has a) (has b)) ⌝ }
 {
-    if places::contains(row, place) {
-        places::union(row, other)
-    } else {
-        row
-    }
+    let common = places::intersection(a, b);
+    !places::is_empty(common)
 }
 
-// One round of the closure: every row that holds k takes in the row of k.
-fn close_through(table: &mut Rows, n: usize, k: usize)
-    requires { ⌜ (n ≤ 128) × (k < n) × (length (now table) ≡ 256) ⌝ }
-    ensures { λ r. ⌜ length (now (table .exit)) ≡ 256 ⌝ }
-    ensures { λ r. ⌜ ((p q : ℕ) → p < n → rowsOf (now (table .exit)) p q ≡ (rowsOf (now (table .entry)) p q || rowsOf (now (table .entry)) p k && rowsOf (now (table .entry)) k q)) ⌝ }
+// Where a walk can go on: from the end of the path to the places of its row that are left; with no path, to any that is left.
+fn ahead(history: &[u8], left: PlaceSet, path: &[u8; 128], depth: usize) -> PlaceSet
+    requires { ⌜ (depth ≤ 128) × ((i : ℕ) → i < depth → getD (now path) i 0 < 128) ⌝ }
+    ensures { λ r. ⌜ (depth ≡ 0 → has r ≡ has left) ⌝ }
+    ensures { λ r. ⌜ ((n : ℕ) → 0 < depth → getD (now (path .entry)) (depth - 1) 0 < n → has r ≡ intersection (historyIn n (now (history .entry)) (getD (now (path .entry)) (depth - 1) 0)) (has left)) ⌝ }
 {
-    let other = rows::get(table, Place(k));
-    let mut p = 0;
-    while p < n {
-        let row = rows::get(table, Place(p));
-        rows::set(table, Place(p), taking_in(row, Place(k), other));
-        p += 1;
+    if depth == 0 {
+        return left;
     }
+    let end = path[depth - 1] as usize;
+    let row = lent_row(history, end);
+    places::intersection(row, left)
 }
 
-// Every row takes in all that is before its place.
-fn close(table: &mut Rows, n: usize)
-    requires { ⌜ (n ≤ 128) × (length (now table) ≡ 256) ⌝ }
-    ensures { λ r. ⌜ ((p q : ℕ) → p < n → rowsOf (now (table .exit)) p q ≡ reach n (rowsOf (now (table .entry))) p q) ⌝ }
-{
-    let mut k = 0;
-    while k < n {
-        close_through(table, n, k);
-        k += 1;
-    }
-}
-
-// Full kind: the rows are closed, so that what is before a place stands in its row, and no place is in its own.
-fn sound_full(table: &Rows, n: usize) -> bool
+// Short kind: no place is before itself. A walk meets each place once: each place of its path stands in the row of the one before, and
+// a row that meets the path closes a circle. A place leaves the path when nothing in its row is left to be met.
+fn sound_short(history: &[u8], n: usize) -> bool
     requires { ⌜ n ≤ 128 ⌝ }
-    ensures { λ r. ⌜ r ≡ (all n (λ p. not (reach n (rowsOf (now (table .entry))) p p)) && closedRows Full n (rowsOf (now (table .entry)))) ⌝ }
+    ensures { λ r. ⌜ r ≡ all n (λ p. not (reach n (historyIn n (now (history .entry))) p p)) ⌝ }
 {
-    if !all_closed(table, n) {
-        return false;
+    let mut path = [0u8; 128];
+    let mut depth = 0;
+    let mut on = places::empty();
+    let mut left = places::below(n);
+    loop {
+        let found = places::lowest(ahead(history, left, &path, depth));
+        let Found::At(p) = found else {
+            if depth == 0 {
+                return true;
+            }
+            depth -= 1;
+            let end = path[depth] as usize;
+            on = places::without(on, Place(end));
+            continue;
+        };
+        path[depth] = p.0 as u8;
+        depth += 1;
+        left = places::without(left, p);
+        on = places::with(on, p);
+        if meets(lent_row(history, p.0), on) {
+            return false;
+        }
     }
-    none_in_own(table, n)
-}
-
-// Short kind: no place is before itself.
-fn sound_short(table: Rows, n: usize) -> bool
-    requires { ⌜ n ≤ 128 ⌝ }
-    ensures { λ r. ⌜ r ≡ all n (λ p. not (reach n (rowsOf table) p p)) ⌝ }
-{
-    let mut closed = table;
-    close(&mut closed, n);
-    none_in_own(&closed, n)
 }
 
 // Whether the lent history fits the accepted records, if no row has a place off the roster.
@@ -203,12 +188,11 @@ pub fn fits(kind: Kind, rows: &Rows, returned: PlaceSet, count: usize, history: 
     ensures { λ r. ⌜ r ≡ fitsTest kind (size count) (acceptedIn count (has returned) (now (rows .entry))) (historyIn (size count) (now (history .entry))) ⌝ }
 {
     let n = answers::size(count);
-    let table = load(history, n);
-    if !all_recorded(&table, rows, returned, n) {
+    if !all_recorded(history, rows, returned, n) {
         return false;
     }
     match kind {
-        Kind::Full => sound_full(&table, n),
-        Kind::Short => sound_short(table, n),
+        Kind::Full => sound_full(history, n),
+        Kind::Short => sound_short(history, n),
     }
 }

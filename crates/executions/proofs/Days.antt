@@ -51,7 +51,7 @@ pub record Sound (k : Kind) (roster : List ℕ) (d : Day) : Type 0 where
   pub is-size : sizeOf d ≡ length roster
   pub is-roster : rosterOf d ≡ roster
   pub all-serials : length (d .serials) ≡ 128
-  pub all-rows : length (d .rows) ≡ 256
+  pub all-rows : length (d .rows) ≡ 2048
   pub stopped-within : (p : ℕ) → has (d .stopped) p ≡ true → p < length roster
   pub rows-within : (p q : ℕ) → rowsOf (d .rows) p q ≡ true → (p < length roster) × (q < length roster)
 
@@ -118,7 +118,7 @@ module _ (d : Day) (p : ℕ) (on : p < sizeOf d) where
 
 -- ---- rows in which some places note one more
 
-module _ (n q : ℕ) (few : n ≤ 128) (on : q < n) (w : List ℕ) (all : length w ≡ 256) (who : Places) (who-on : (x : ℕ) → who x ≡ true → x < n) where
+module _ (n q : ℕ) (few : n ≤ 128) (on : q < n) (w : List ℕ) (all : length w ≡ 2048) (who : Places) (who-on : (x : ℕ) → who x ≡ true → x < n) where
   noted : List ℕ
   noted = tableOf (noting who q (rowsOf w))
 
@@ -171,7 +171,7 @@ module _ (n q : ℕ) (few : n ≤ 128) (on : q < n) (w : List ℕ) (all : length
 
 -- ---- a hearing
 
-module _ (d : Day) (p q : ℕ) (all : length (d .rows) ≡ 256) (p-on : p < sizeOf d) (q-on : q < sizeOf d) (runs : executionOf d .stopped p ≡ false) where
+module _ (d : Day) (p q : ℕ) (all : length (d .rows) ≡ 2048) (p-on : p < sizeOf d) (q-on : q < sizeOf d) (runs : executionOf d .stopped p ≡ false) where
   abbrev who : Places
   who = listeners (d .kind) (sizeOf d) (executionOf d) p
 
@@ -248,7 +248,7 @@ module _ {k : Kind} {roster : List ℕ} {d : Day} (g : Sound k roster d) (e : Ev
           ap executionOf (after-hear d e h) ∙ hearing-execution d (e .place .0) (e .other .0) (g .all-rows) p q r
           ∙ sym (happening-hear (d .kind) (sizeOf d) (executionOf d) e h)
 
-  after-rows : Allowed (sizeOf d) (executionOf d) e → length (dayAfter d e .rows) ≡ 256
+  after-rows : Allowed (sizeOf d) (executionOf d) e → length (dayAfter d e .rows) ≡ 2048
   unfolding stopping hearing
   after-rows (stops h p r) = rw (after-stop d e h) (g .all-rows)
   after-rows (hears h p q r s) = rw (after-hear d e h) (table-length _)

@@ -1,18 +1,18 @@
 -- A new record passes the test for 11 just where a history fits it and the records accepted before. Assumes nothing.
-use mathlib.Core.Path.{_≡_, refl}
+use mathlib.Core.Path.{_≡_, refl, ap, fun-ext}
 use mathlib.Core.Bool.{Bool, true, false, not, cond, _&&_, _||_, or-false}
 use mathlib.Core.Logic.{_⊎_, inl, inr, _↔_}
 use Prim.Native.Nat.{ℕ, _<_}
 use native.Mathlib.Omega.{arith}
 use lib.Dec.{eqb}
 use borrow.Author.Tests.{eqb-true, ne-eqb}
-use Rattle.places.specs.Sets.{all, subset}
-use Rattle.places.proofs.Booleans.{clash, is-false, and-intro, and-left, and-right, or-left, or-right, not-true, not-intro, implies-elim, implies-intro, eqb-self}
-use Rattle.places.proofs.Tests.{all-elim, all-intro, subset-elim, subset-intro}
+use Rattle.places.specs.Sets.{union, any, all, subset}
+use Rattle.places.proofs.Booleans.{clash, is-false, both-ways, or-cases, and-intro, and-left, and-right, or-left, or-right, not-true, not-intro, implies-elim, implies-intro, eqb-self}
+use Rattle.places.proofs.Tests.{any-elim, any-intro, all-elim, all-intro, subset-elim, subset-intro}
 use Rattle.histories.specs.declared.Kind.{Kind}
 use Rattle.histories.specs.declared.Kind.the-variants.{Full, Short}
 use Rattle.histories.specs.Histories.{Row, History, Before, heard, through, Accepted, lay, Fits}
-use Rattle.histories.specs.Rule.{recorded, reach, before, agrees, accepts}
+use Rattle.histories.specs.Rule.{recorded, mourned, reach, before, agrees, accepts}
 use Rattle.histories.proofs.Closure.{before-trans, before-mono, before-closed, reach-sound, reach-complete}
 use Rattle.histories.proofs.Exact.{recorded-returned, recorded-fits-if, recorded-sub, recorded-fits}
 
@@ -39,6 +39,36 @@ unfolding recorded
 laid-old A p M a r q e =
     let b = and-left (A .returned r) (A .row r q) e in
     rw (ne-eqb r p (λ h. clash b (rw h a))) (and-intro (or-left false b) (and-right (A .returned r) (A .row r q) e))
+
+-- row by row: the new one is M, and every other is as it was
+pub laid-recorded : (A : Accepted) (p : ℕ) (M : Row) (r : ℕ) → recorded (lay A p M) r ≡ cond (eqb r p) M (recorded A r)
+unfolding recorded
+laid-recorded A p M r = fun-ext (λ q. go q (eqb r p))
+  where
+    go : (q : ℕ) (t : Bool) → (A .returned r || t) && cond t M (A .row r) q ≡ cond t M (λ q. A .returned r && A .row r q) q
+    go q true = ap (λ (b : Bool). b && M q) (or-right (A .returned r) refl)
+    go q false = ap (λ (b : Bool). b && A .row r q) (or-false (A .returned r))
+
+-- the mourned places, with those that the new record names
+pub laid-mourned : (n : ℕ) (A : Accepted) (p : ℕ) (M : Row) → A .returned p ≡ false → p < n → mourned n (lay A p M) ≡ union (mourned n A) M
+unfolding mourned
+laid-mourned n A p M absent on = fun-ext (λ q. both-ways (any n (λ r. recorded (lay A p M) r q)) (any n (λ r. recorded A r q) || M q) (to q) (λ e. from q (or-cases (any n (λ r. recorded A r q)) (M q) e)))
+  where
+    to : (q : ℕ) → any n (λ r. recorded (lay A p M) r q) ≡ true → any n (λ r. recorded A r q) || M q ≡ true
+    to q e = go (laid-cases A p M (x .0) q (x .2))
+      where
+        x : (r : ℕ) × (r < n) × (recorded (lay A p M) r q ≡ true)
+        x = any-elim n (λ r. recorded (lay A p M) r q) e
+
+        go : Laid A p M (x .0) q → any n (λ r. recorded A r q) || M q ≡ true
+        go (inl y) = or-right (any n (λ r. recorded A r q)) (y .1)
+        go (inr y) = or-left (M q) (any-intro n (λ r. recorded A r q) (x .0) (x .1) y)
+
+    from : (q : ℕ) → (any n (λ r. recorded A r q) ≡ true) ⊎ (M q ≡ true) → any n (λ r. recorded (lay A p M) r q) ≡ true
+    from q (inl e) =
+        let x = any-elim n (λ r. recorded A r q) e in
+        any-intro n (λ r. recorded (lay A p M) r q) (x .0) (x .1) (laid-old A p M absent (x .0) q (x .2))
+    from q (inr e) = any-intro n (λ r. recorded (lay A p M) r q) p on (laid-new A p M q e)
 
 module _ {k : Kind} {n : ℕ} {A : Accepted} {H : History} (f : Fits k n A H) (p : ℕ) (M : Row) (on : p < n) (M-on : (q : ℕ) → M q ≡ true → q < n) where
   laid-inside : (r q : ℕ) → recorded (lay A p M) r q ≡ true → (r < n) × (q < n)

@@ -12,7 +12,7 @@ use Rattle.places.proofs.Tests.{any-elim, any-intro, any-none, none-any, lowest
 use Rattle.histories.specs.declared.Kind.{Kind}
 use Rattle.histories.specs.declared.Kind.the-variants.{Full, Short}
 use Rattle.histories.specs.Histories.{Row, History, Before, heard, through, IsHistory, Accepted, Fits, Last, LastInAll, LastInNone, Disagree, Decided}
-use Rattle.histories.specs.Rule.{recorded, mourned, before, ruledOut, blockers, is-last, not-last, is-open, answer, openAnswer, settled, unmourned, unmournedAbsent, inherited, grown, second}
+use Rattle.histories.specs.Rule.{recorded, mourned, before, ruledOutBy, blockersBy, blockers, is-last, not-last, is-open, answerBy, answer, openAnswer, settledBy, settled, unmourned, unmournedAbsent, inherited, grown, second}
 use Rattle.histories.proofs.Closure.{before-trans, before-mono, before-closed, reach-sound, reach-complete}
 
 -- ---- the recorded rows
@@ -85,12 +85,12 @@ record Blocks (k : Kind) (n : ℕ) (A : Accepted) (i b : ℕ) : Type 0 where
   on : b < n
   other : ¬ (b ≡ i)
   absent : A .returned b ≡ false
-  free : ruledOut k n A i b ≡ false
+  free : ruledOutBy k n A (mourned n A) i b ≡ false
 
 blocks : (k : Kind) (n : ℕ) (A : Accepted) (i b : ℕ) → blockers k n A i b ≡ true → Blocks k n A i b
-unfolding blockers
+unfolding blockers blockersBy
 blocks k n A i b e =
-    let free = minus-elim (difference (difference (below n) (only i)) (A .returned) b) (ruledOut k n A i b) e in
+    let free = minus-elim (difference (difference (below n) (only i)) (A .returned) b) (ruledOutBy k n A (mourned n A) i b) e in
     let absent = minus-elim (difference (below n) (only i) b) (A .returned b) (free .0) in
     let other = minus-elim (ltb b n) (eqb b i) (absent .0) in
     record { on = ltb-true b n (other .0); other = λ h. clash (eq-eqb b i h) (other .1); absent = absent .1; free = free .1 }
@@ -98,8 +98,8 @@ blocks k n A i b e =
 -- ---- not mourned and without a blocker: last
 
 -- an absent place that is ruled out did not hear i
-ruled-out : (k : Kind) {n : ℕ} {A : Accepted} {H : History} → Fits k n A H → (i p : ℕ) → mourned n A i ≡ false → ruledOut k n A i p ≡ true → H p i ≡ true → ⊥
-unfolding ruledOut before
+ruled-out : (k : Kind) {n : ℕ} {A : Accepted} {H : History} → Fits k n A H → (i p : ℕ) → mourned n A i ≡ false → ruledOutBy k n A (mourned n A) i p ≡ true → H p i ≡ true → ⊥
+unfolding ruledOutBy before
 ruled-out Full {n} {A} f i p u c t =
     let r = mourned-elim n A p c in
     let m = r .0 in
@@ -108,12 +108,12 @@ ruled-out Full {n} {A} f i p u c t =
 ruled-out Short {n} {A} f i p u c t = f .history .acyclic i (before-trans (heard t) (before-mono (recorded-sub f) (reach-sound n (recorded A) i p c)))
 
 unblocked-last : {k : Kind} {n : ℕ} {A : Accepted} {H : History} → Fits k n A H → (i : ℕ) → mourned n A i ≡ false → any n (blockers k n A i) ≡ false → Last H i
-unfolding blockers
+unfolding blockers blockersBy
 unblocked-last {k} {n} {A} {H} f i u a p = is-false (H p i) (λ t. go t (split (A .returned p)))
   where
     go : H p i ≡ true → (A .returned p ≡ true) ⊎ (A .returned p ≡ false) → ⊥
     go t (inl b) = clash (mourned-intro f p i (recorded-sup f p i b t)) u
-    go t (inr b) = ruled-out k f i p u (is-true (ruledOut k n A i p) (λ c. clash (blocks c) (any-none n (blockers k n A i) a p on))) t
+    go t (inr b) = ruled-out k f i p u (is-true (ruledOutBy k n A (mourned n A) i p) (λ c. clash (blocks c) (any-none n (blockers k n A i) a p on))) t
       where
         on : p < n
         on = f .history .inside p i t .0
@@ -121,7 +121,7 @@ unblocked-last {k} {n} {A} {H} f i u a p = is-false (H p i) (λ t. go t (split (
         other : eqb p i ≡ false
         other = ne-eqb p i (λ e. f .history .acyclic i (heard (rw e at t)))
 
-        blocks : ruledOut k n A i p ≡ false → blockers k n A i p ≡ true
+        blocks : ruledOutBy k n A (mourned n A) i p ≡ false → blockers k n A i p ≡ true
         blocks c = minus-intro (minus-intro (minus-intro (lt-ltb p n on) other) b) c
 
 -- ---- not mourned and with a blocker: the second shown history
@@ -162,7 +162,7 @@ grown-inherited k A i b q e = rw (eqb-self b) (or-left (eqb q i) e)
 -- the full kind
 module _ {n : ℕ} {A : Accepted} {H : History} (f : Fits Full n A H) (i b : ℕ) (s : Blocks Full n A i b) where
   b-unheard : (p : ℕ) → recorded A p b ≡ true → ⊥
-  unfolding ruledOut
+  unfolding ruledOutBy
   b-unheard p e = clash (mourned-intro f p b e) (s .free)
 
   grown-closed : (p m q : ℕ) → grown Full A i b p m ≡ true → grown Full A i b m q ≡ true → grown Full A i b p q ≡ true
@@ -198,7 +198,7 @@ inherited-recorded Short A i q e = clash e refl
 -- the short kind
 module _ {n : ℕ} {A : Accepted} {H : History} (f : Fits Short n A H) (i b : ℕ) (s : Blocks Short n A i b) where
   b-not-before : Before (recorded A) b i → ⊥
-  unfolding ruledOut before
+  unfolding ruledOutBy before
   b-not-before x = clash (reach-complete n (recorded A) (λ p q e. recorded-fits f .history .inside p q e .0) x) (s .free)
 
   -- q is before p by recorded rows alone, or by way of i and b
@@ -261,7 +261,7 @@ data View (k : Kind) (n : ℕ) (A : Accepted) (i : ℕ) : Type 0 where
   sees-open : answer k n A i ≡ is-open → Disagree k n A i (recorded A) (second k n A i) → View k n A i
 
 view : {k : Kind} {n : ℕ} {A : Accepted} {H : History} → Fits k n A H → (i : ℕ) → i < n → View k n A i
-unfolding answer second
+unfolding answer answerBy blockers second
 view {k} {n} {A} f i l = go (mourned n A i) refl (any n (blockers k n A i)) refl
   where
     go : (m : Bool) → mourned n A i ≡ m → (a : Bool) → any n (blockers k n A i) ≡ a → View k n A i
@@ -334,7 +334,7 @@ opens k n A i = openAnswer (answer k n A i)
 
 -- the histories that fit agree on every place
 pub settled-iff : {k : Kind} {n : ℕ} {A : Accepted} {H : History} → Fits k n A H → (settled k n A ≡ true) ↔ ((i : ℕ) → i < n → Decided k n A i)
-unfolding settled openAnswer
+unfolding settled settledBy openAnswer answer
 settled-iff {k} {n} {A} {H} f = (λ e i l. to i (view f i l) (any-none n (opens k n A) (not-true (any n (opens k n A)) e) i l), λ h. rw (none-any n (opens k n A) (λ i l. from i (view f i l) (h i l))))
   where
     to : (i : ℕ) → View k n A i → opens k n A i ≡ false → Decided k n A i
@@ -351,7 +351,7 @@ settled-iff {k} {n} {A} {H} f = (λ e i l. to i (view f i l) (any-none n (opens 
 -- or two of them disagree on some place
 pub unsettled : {k : Kind} {n : ℕ} {A : Accepted} {H : History} → Fits k n A H → settled k n A ≡ false
     → (i : ℕ) × (i < n) × Disagree k n A i (recorded A) (second k n A i)
-unfolding settled openAnswer
+unfolding settled settledBy openAnswer answer
 unsettled {k} {n} {A} f e = (r .0, r .1, at (view f (r .0) (r .1)))
   where
     r : (i : ℕ) × (i < n) × (opens k n A i ≡ true)

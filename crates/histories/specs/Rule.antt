@@ -25,20 +25,27 @@ reach (suc k) H = λ p q. reach k H p q || reach k H p k && reach k H k q
 unfoldable pub before : ℕ → Accepted → History
 before n A = reach n (recorded A)
 
--- the absent places that cannot have heard i: in the short kind those before i, in the full kind those mourned
-unfoldable pub ruledOut : Kind → ℕ → Accepted → ℕ → Row
-ruledOut Full n A i = mourned n A
-ruledOut Short n A i = before n A i
+-- the absent places that cannot have heard i: in the short kind those before i, in the full kind those mourned, which are M
+unfoldable pub ruledOutBy : Kind → ℕ → Accepted → Row → ℕ → Row
+ruledOutBy Full n A M i = M
+ruledOutBy Short n A M i = before n A i
 
 -- the blockers of i: other places that have not returned and are not ruled out
-unfoldable pub blockers : Kind → ℕ → Accepted → ℕ → Row
-blockers k n A i = difference (difference (difference (below n) (only i)) (A .returned)) (ruledOut k n A i)
+unfoldable pub blockersBy : Kind → ℕ → Accepted → Row → ℕ → Row
+blockersBy k n A M i = difference (difference (difference (below n) (only i)) (A .returned)) (ruledOutBy k n A M i)
 
 pub data Answer : Type 0 where
   is-last not-last is-open : Answer
 
+unfoldable pub answerBy : Kind → ℕ → Accepted → Row → ℕ → Answer
+answerBy k n A M i = cond (M i) not-last (cond (any n (blockersBy k n A M i)) is-open is-last)
+
+-- the rule itself, where M is collected from the records. One who keeps M as records come in has no need to collect it
+unfoldable pub blockers : Kind → ℕ → Accepted → ℕ → Row
+blockers k n A = blockersBy k n A (mourned n A)
+
 unfoldable pub answer : Kind → ℕ → Accepted → ℕ → Answer
-answer k n A i = cond (mourned n A i) not-last (cond (any n (blockers k n A i)) is-open is-last)
+answer k n A = answerBy k n A (mourned n A)
 
 unfoldable pub openAnswer : Answer → Bool
 openAnswer is-last = false
@@ -46,8 +53,11 @@ openAnswer not-last = false
 openAnswer is-open = true
 
 -- settled: no place is open
+unfoldable pub settledBy : Kind → ℕ → Accepted → Row → Bool
+settledBy k n A M = not (any n (λ i. openAnswer (answerBy k n A M i)))
+
 unfoldable pub settled : Kind → ℕ → Accepted → Bool
-settled k n A = not (any n (λ i. openAnswer (answer k n A i)))
+settled k n A = settledBy k n A (mourned n A)
 
 -- all unmourned places, those of them that are absent, and how many the former are
 unfoldable pub unmourned : ℕ → Accepted → Row

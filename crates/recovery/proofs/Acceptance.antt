@@ -7,12 +7,12 @@ use Rattle.places.specs.Sets.{any, all, subset, same, count, lowest}
 use Rattle.places.specs.PlaceSets.{bit, has, word, packed, found}
 use Rattle.histories.specs.Rule as H
 use Rattle.rosters.specs.Rosters.{placeOf, holds, firstRepeat, listed}
-use Rattle.rows.specs.Rows.{noRows, rowAt, rowsOf, withRow, bytesFrom, rowBytes, rowIn, historyIn, rowsFrom, laid}
+use Rattle.rows.specs.Rows.{noRows, rowAt, rowsOf, withRow, bytesFrom, rowBytes, putRow, rowIn, historyIn, rowsFrom, laid}
 use Rattle.records.specs.Layout as L
 use Rattle.records.specs.Records.{sameList, unwritten, putAt, writtenAt}
 use Rattle.answers.specs.Views.{size, acceptedIn}
 use Rattle.checks.specs.Checks.{offRoster}
-use Rattle.shows.specs.Shows.{unshown, shownOpen, shownAs, shownIn}
+use Rattle.shows.specs.Shows.{unshown, replaced, shownOpen, shownAs, shownIn}
 use Rattle.replies.specs.Replies.{sameKind, entering}
 use Rattle.recovery.specs.Contracts as C
 use Rattle.recovery.specs.Demand.{Call, offer, ask, show, check, whole, unmourned-count, find, write, Outcome, says, lent, lent-one, number, opened, taken, repeated, is-last, not-last, is-open, decided, shown, fits, fits-not, unsettled, not-found, ends, refused}
@@ -101,5 +101,5 @@ unfolding serials U.openingSays C.opened C.openedAs listed placeOf holds firstRe
 opening = refl
 
 pub listing : U.run (C.opened 2 serials .recovery) (map callOf lines) ≡ map outcomeOf lines
-unfolding serials group record-101 record-104 full-101 other-101 circle-102 row first-rows second-rows callOf outcomeOf lines U.run U.next U.outcome U.offerSays U.askedSays U.showingSays U.checkedSays U.writingSays U.foundGives U.shownGives U.writtenGives C.sizeOf C.rosterOf C.acceptedOf C.fresh C.openedAs C.opened sameKind C.ofGroup C.saying C.keeping C.answered entering C.entered C.judged C.offeredAs C.offered C.answerAt C.askedAs C.asked unshown shownOpen shownAs shownIn C.shown offRoster C.checkedRows C.checked C.settledOf C.unmournedCountOf C.foundIn C.recordOf C.writtenOf size acceptedIn L.then L.check L.byte L.serial L.knownKind L.kindOf L.kindSection L.rosterSerials L.rosterSection L.headSection L.mournedSerials L.mournedSection L.stored L.lone L.kindByte L.serialBytes L.serialsBytes L.chosen L.layout sameList unwritten putAt writtenAt placeOf holds firstRepeat listed noRows rowAt rowsOf withRow bytesFrom rowBytes rowIn historyIn rowsFrom laid bit has word packed found any all subset same count lowest H.recorded H.mourned H.reach H.before H.ruledOut H.blockers H.answer H.openAnswer H.settled H.unmourned H.unmournedCount H.inherited H.grown H.second H.agrees H.accepts H.closedRows H.fitsTest
+unfolding serials group record-101 record-104 full-101 other-101 circle-102 row first-rows second-rows callOf outcomeOf lines U.run U.next U.outcome U.offerSays U.askedSays U.showingSays U.checkedSays U.writingSays U.foundGives U.shownGives U.writtenGives C.sizeOf C.rosterOf C.acceptedOf C.fresh C.openedAs C.opened sameKind C.ofGroup C.saying C.keeping C.answered entering C.entered C.judged C.offeredAs C.offered C.answerAt C.askedAs C.asked unshown replaced shownOpen shownAs shownIn C.shown offRoster C.checkedRows C.checked C.settledOf C.unmournedOf C.unmournedCountOf C.foundIn C.recordOf C.writtenOf size acceptedIn L.then L.check L.byte L.serial L.knownKind L.kindOf L.kindSection L.rosterSerials L.rosterSection L.headSection L.mournedSerials L.mournedSection L.stored L.lone L.kindByte L.serialBytes L.serialsBytes L.chosen L.layout sameList unwritten putAt writtenAt placeOf holds firstRepeat listed noRows rowAt rowsOf withRow bytesFrom rowBytes putRow rowIn historyIn rowsFrom laid bit has word packed found any all subset same count lowest H.recorded H.mourned H.reach H.before H.ruledOutBy H.blockersBy H.answerBy H.openAnswer H.settledBy H.inherited H.agrees H.accepts H.closedRows H.fitsTest
 listing = refl

@@ -7,29 +7,30 @@ use Prim.Native.Nat.{ℕ, _+_, _*_, _<_, _≤_}
 use lib.ListN.{length}
 use lib.Dec.{leb, ltb}
 use borrow.Author.Tests.{lt-ltb, le-ltb, le-leb, lt-leb}
-use Rattle.places.specs.Sets.{same, count}
+use Rattle.places.specs.Sets.{below, difference, with, same, lowest}
 use Rattle.places.specs.PlaceSets.{has, found}
 use Rattle.places.specs.declared.Found.the-variants.{At, Nothing}
 use Rattle.places.proofs.Booleans.{is-false, and-intro, and-left, and-right}
 use Rattle.histories.specs.Histories.{Row}
-use Rattle.histories.specs.Rule.{Answer, is-last, not-last, is-open, answer, recorded, second, accepts, fitsTest, settled, unmourned, unmournedAbsent, unmournedCount}
+use Rattle.histories.specs.Rule.{Answer, is-last, not-last, is-open, blockersBy, answerBy, settledBy, inherited, accepts, fitsTest}
 use Rattle.rosters.specs.Rosters.{placeOf}
-use Rattle.rows.specs.Rows.{historyIn, laid}
+use Rattle.rows.specs.Rows.{rowsOf, historyIn, laid}
 use Rattle.records.specs.declared.Writing.the-variants as W
 use Rattle.records.specs.Layout.{got, refused, Stored, lone, layout}
 use Rattle.records.specs.Records.{sameList, putAt, unwritten, writtenAt}
+use Rattle.records.proofs.Lists.{same-list-elim}
 use Rattle.recovery.specs.declared.Recovery.{Recovery}
 use Rattle.replies.specs.declared.Reply.the-variants as O
 use Rattle.replies.specs.Replies.{sameKind}
 use Rattle.replies.proofs.Laws.{entering-back, entering-new}
 use Rattle.recovery.specs.declared.Asked.the-variants as A
 use Rattle.shows.specs.declared.Showing.the-variants as S
-use Rattle.shows.specs.Shows.{unshown, shownIn}
+use Rattle.shows.specs.Shows.{unshown, replaced, shownIn}
 use Rattle.shows.proofs.Cases as case
 use Rattle.recovery.specs.declared.Checked.the-variants as C
 use Rattle.checks.specs.Checks.{offRoster}
-use Rattle.recovery.specs.Contracts.{sizeOf, rosterOf, acceptedOf, ofGroup, saying, keeping, answered, entered, judged, offeredAs, offered, answerAt, askedAs, asked, shown, checkedRows, checked, settledOf, unmournedOf, unmournedAbsentOf, unmournedCountOf, foundIn, recordOf, writtenOf}
-use Rattle.recovery.proofs.Facts.{same-kind-elim, same-kind-self, same-list-elim, same-list-self}
+use Rattle.recovery.specs.Contracts.{sizeOf, rosterOf, acceptedOf, ofGroup, saying, keeping, answered, entered, judged, offeredAs, offered, answerAt, askedAs, asked, shown, checkedRows, checked, settledOf, unmournedOf, foundIn, recordOf, writtenOf}
+use Rattle.recovery.proofs.Facts.{same-kind-elim, same-kind-self, same-list-self}
 
 -- ---- offering
 
@@ -91,15 +92,15 @@ module _ (r : Recovery) {n : ℕ} (is : sizeOf r ≡ n) where
 
   -- ---- asking
 
-  answer-is : (i : ℕ) → answerAt r i ≡ answer (r .kind) n (acceptedOf r) i
+  answer-is : (i : ℕ) → answerAt r i ≡ answerBy (r .kind) n (acceptedOf r) (has (r .mourned)) i
   unfolding answerAt
-  answer-is i = ap (λ (m : ℕ). answer (r .kind) m (acceptedOf r) i) is
+  answer-is i = ap (λ (m : ℕ). answerBy (r .kind) m (acceptedOf r) (has (r .mourned)) i) is
 
   pub asked-off : (i : ℕ) → n ≤ i → asked r i ≡ A.Refused 12
   unfolding asked
-  asked-off i l = ap₂ (λ (m : ℕ) (a : Answer). cond (ltb i m) (askedAs a) (A.Refused 12)) is (answer-is i) ∙ ap (λ (b : Bool). cond b (askedAs (answer (r .kind) n (acceptedOf r) i)) (A.Refused 12)) (le-ltb i n l)
+  asked-off i l = ap₂ (λ (m : ℕ) (a : Answer). cond (ltb i m) (askedAs a) (A.Refused 12)) is (answer-is i) ∙ ap (λ (b : Bool). cond b (askedAs (answerBy (r .kind) n (acceptedOf r) (has (r .mourned)) i)) (A.Refused 12)) (le-ltb i n l)
 
-  pub asked-is : (i : ℕ) (a : Answer) → i < n → answer (r .kind) n (acceptedOf r) i ≡ a → asked r i ≡ askedAs a
+  pub asked-is : (i : ℕ) (a : Answer) → i < n → answerBy (r .kind) n (acceptedOf r) (has (r .mourned)) i ≡ a → asked r i ≡ askedAs a
   unfolding asked
   asked-is i a l e =
       ap₂ (λ (m : ℕ) (a : Answer). cond (ltb i m) (askedAs a) (A.Refused 12)) is (answer-is i ∙ e) ∙ ap (λ (b : Bool). cond b (askedAs a) (A.Refused 12)) (lt-ltb i n l)
@@ -107,26 +108,26 @@ module _ (r : Recovery) {n : ℕ} (is : sizeOf r ≡ n) where
   -- ---- showing
 
   module _ (i : ℕ) (a b : List ℕ) where
-    shown-is : shown r i a b ≡ shownIn (r .kind) n (acceptedOf r) i a b
+    shown-is : shown r i a b ≡ shownIn (r .kind) n (acceptedOf r) (has (r .mourned)) (rowsOf (r .rows)) i a b
     unfolding shown
-    shown-is = ap (λ (m : ℕ). shownIn (r .kind) m (acceptedOf r) i a b) is
+    shown-is = ap (λ (m : ℕ). shownIn (r .kind) m (acceptedOf r) (has (r .mourned)) (rowsOf (r .rows)) i a b) is
 
     pub shown-off : n ≤ i → shown r i a b ≡ unshown (S.Refused 12) a b
-    shown-off l = shown-is ∙ case.shown-off (r .kind) n (acceptedOf r) i a b l
+    shown-off l = shown-is ∙ case.shown-off (r .kind) n (acceptedOf r) (has (r .mourned)) (rowsOf (r .rows)) i a b l
 
-    pub shown-last : i < n → answer (r .kind) n (acceptedOf r) i ≡ is-last → shown r i a b ≡ unshown S.Decided a b
-    shown-last l e = shown-is ∙ case.shown-last (r .kind) n (acceptedOf r) i a b l e
+    pub shown-last : i < n → answerBy (r .kind) n (acceptedOf r) (has (r .mourned)) i ≡ is-last → shown r i a b ≡ unshown S.Decided a b
+    shown-last l e = shown-is ∙ case.shown-last (r .kind) n (acceptedOf r) (has (r .mourned)) (rowsOf (r .rows)) i a b l e
 
-    pub shown-not : i < n → answer (r .kind) n (acceptedOf r) i ≡ not-last → shown r i a b ≡ unshown S.Decided a b
-    shown-not l e = shown-is ∙ case.shown-not (r .kind) n (acceptedOf r) i a b l e
+    pub shown-not : i < n → answerBy (r .kind) n (acceptedOf r) (has (r .mourned)) i ≡ not-last → shown r i a b ≡ unshown S.Decided a b
+    shown-not l e = shown-is ∙ case.shown-not (r .kind) n (acceptedOf r) (has (r .mourned)) (rowsOf (r .rows)) i a b l e
 
-    module _ (l : i < n) (e : answer (r .kind) n (acceptedOf r) i ≡ is-open) where
+    module _ (l : i < n) (e : answerBy (r .kind) n (acceptedOf r) (has (r .mourned)) i ≡ is-open) where
       pub shown-short : (length a < 16 * n) ⊎ (length b < 16 * n) → shown r i a b ≡ unshown (S.Refused 13) a b
-      shown-short s = shown-is ∙ case.shown-short (r .kind) n (acceptedOf r) i a b l e s
+      shown-short s = shown-is ∙ case.shown-short (r .kind) n (acceptedOf r) (has (r .mourned)) (rowsOf (r .rows)) i a b l e s
 
       pub shown-both : 16 * n ≤ length a → 16 * n ≤ length b
-          → shown r i a b ≡ record { answer = S.Shown; first = laid n (recorded (acceptedOf r)) a; second = laid n (second (r .kind) n (acceptedOf r) i) b }
-      shown-both u v = shown-is ∙ case.shown-both (r .kind) n (acceptedOf r) i a b l e u v
+          → shown r i a b ≡ record { answer = S.Shown; first = laid n (rowsOf (r .rows)) a; second = laid n (replaced (rowsOf (r .rows)) (lowest n (blockersBy (r .kind) n (acceptedOf r) (has (r .mourned)) i)) (with i (inherited (r .kind) (acceptedOf r) i))) b }
+      shown-both u v = shown-is ∙ case.shown-both (r .kind) n (acceptedOf r) (has (r .mourned)) (rowsOf (r .rows)) i a b l e u v
 
   -- ---- checking a lent history
 
@@ -152,21 +153,13 @@ module _ (r : Recovery) {n : ℕ} (is : sizeOf r ≡ n) where
 
   -- ---- the whole, the two sets and the number
 
-  pub settled-is : settledOf r ≡ settled (r .kind) n (acceptedOf r)
+  pub settled-is : settledOf r ≡ settledBy (r .kind) n (acceptedOf r) (has (r .mourned))
   unfolding settledOf
-  settled-is = ap (λ (m : ℕ). settled (r .kind) m (acceptedOf r)) is
+  settled-is = ap (λ (m : ℕ). settledBy (r .kind) m (acceptedOf r) (has (r .mourned))) is
 
-  pub unmourned-is : unmournedOf r ≡ unmourned n (acceptedOf r)
+  pub unmourned-is : unmournedOf r ≡ difference (below n) (has (r .mourned))
   unfolding unmournedOf
-  unmourned-is = ap (λ (m : ℕ). unmourned m (acceptedOf r)) is
-
-  pub absent-is : unmournedAbsentOf r ≡ unmournedAbsent n (acceptedOf r)
-  unfolding unmournedAbsentOf
-  absent-is = ap (λ (m : ℕ). unmournedAbsent m (acceptedOf r)) is
-
-  pub count-is : unmournedCountOf r ≡ count n (unmourned n (acceptedOf r))
-  unfolding unmournedCountOf unmournedCount
-  count-is = ap (λ (m : ℕ). count m (unmourned m (acceptedOf r))) is
+  unmourned-is = ap (λ (m : ℕ). difference (below m) (has (r .mourned))) is
 
   -- ---- writing a returned record
 

@@ -10,11 +10,12 @@ use lib.ListN.{length, getD, drop}
 use lib.Dec.{ltb}
 use borrow.Author.Tests.{lt-ltb}
 use Rattle.places.specs.Sets.{nothing, same}
+use Rattle.places.specs.PlaceSets.{has}
 use Rattle.places.proofs.Booleans.{split, clash, is-false, and-right}
 use Rattle.places.proofs.Tests.{same-intro}
 use Rattle.histories.specs.declared.Kind.{Kind}
 use Rattle.histories.specs.Histories.{Row, History, Accepted, none, lay, Fits, Disagree}
-use Rattle.histories.specs.Rule.{Answer, is-last, not-last, is-open, answer, recorded, second, accepts, fitsTest, settled}
+use Rattle.histories.specs.Rule.{Answer, is-last, not-last, is-open, answerBy, answer, recorded, second, accepts, fitsTest, settled}
 use Rattle.histories.proofs.Exact.{exact, settled-iff, unsettled, unmourned-iff, unmourned-absent-iff}
 use Rattle.histories.proofs.Accepts.{accepts-iff}
 use Rattle.histories.proofs.Checks.{fits-iff}
@@ -33,12 +34,12 @@ use Rattle.recovery.specs.declared.Opening.the-variants as G
 use Rattle.recovery.specs.declared.Offered.{Offered}
 use Rattle.checks.specs.Checks.{offRoster}
 use Rattle.shows.specs.Shows.{unshown}
-use Rattle.recovery.specs.Contracts.{sizeOf, rosterOf, acceptedOf, fresh, opened, ofGroup, saying, keeping, entered, offered, askedAs, asked, shown, checked, settledOf, unmournedOf, unmournedAbsentOf, unmournedCountOf, foundIn, recordOf, writtenOf}
+use Rattle.recovery.specs.Contracts.{sizeOf, rosterOf, acceptedOf, Kept, fresh, opened, ofGroup, saying, keeping, entered, offered, askedAs, asked, shown, checked, settledOf, unmournedOf, unmournedAbsentOf, unmournedCountOf, foundIn, recordOf, writtenOf}
 use Rattle.recovery.specs.Demand as D
 use Rattle.recovery.specs.Demand.{Free, Call, offer, ask, show, check, whole, unmourned, unmourned-absent, unmourned-count, find, write, says, lent-one, places, number, OfGroup, Holds, recordIn, Dictates, faulty, foreign, repeats, differs, takes, none-fits, asked-off, asked-last, asked-not, asked-open, showed-off, showed-decided, showed-short, showed, checked-short, checked-off, checked-fits, checked-not, whole-settled, whole-open, gave-unmourned, gave-absent, gave-count, found-at, found-none, wrote-off, wrote-absent, wrote-short, wrote, Whole, end, then}
 use Rattle.recovery.specs.Run.{offerSays, askedSays, showingSays, checkedSays, writingSays, foundGives, shownGives, writtenGives, outcome, next, run, left}
 use Rattle.recovery.proofs.Opens.{opened-free}
-use Rattle.recovery.proofs.Keeps.{row-on, fresh-rows, fresh-accepted, fresh-size, fresh-roster, fresh-serials, kept-accepted, kept-kind, kept-size, kept-roster, kept-serials, kept-rows}
+use Rattle.recovery.proofs.Keeps.{row-on, fresh-rows, fresh-accepted, fresh-size, fresh-roster, fresh-serials, kept-accepted, kept-kind, kept-size, kept-roster, kept-serials, kept-rows, fresh-kept, keeping-kept, kept-answer, kept-settled, kept-shown, kept-unmourned, kept-absent, kept-count}
 use Rattle.recovery.proofs.Calls as call
 use Rattle.recovery.proofs.Facts.{rows-equal, off-there, rows-on, lone-on, take-put, past-put}
 
@@ -50,7 +51,8 @@ pub record Good (k : Kind) (roster : List ℕ) (r : Recovery) : Type 0 where
   pub sound : IsRoster roster
   pub below : (p : ℕ) → p < length roster → getD roster p 0 < 2 ^ 32
   pub all-serials : length (r .serials) ≡ 128
-  pub all-rows : length (r .rows) ≡ 256
+  pub all-rows : length (r .rows) ≡ 2048
+  pub kept : Kept r
   pub some : History
   pub fits : Fits k (length roster) (acceptedOf r) some
 
@@ -60,6 +62,10 @@ module _ {roster : List ℕ} {r : Recovery} (g : Good (r .kind) roster r) where
   -- what stands in an accepted row is on the roster
   row-inside : (p q : ℕ) → acceptedOf r .row p q ≡ true → q < length roster
   row-inside p q e = rw (g .is-size) at (row-on r p q e)
+
+  -- the answer by what is kept
+  by : (i : ℕ) {a : Answer} → answer (r .kind) (length roster) (acceptedOf r) i ≡ a → answerBy (r .kind) (length roster) (acceptedOf r) (has (r .mourned)) i ≡ a
+  by i e = kept-answer (g .is-size) (g .kept) i ∙ e
 
   -- ---- asking
 
@@ -71,9 +77,9 @@ module _ {roster : List ℕ} {r : Recovery} (g : Good (r .kind) roster r) where
       n = length roster
 
       at : i < n → (a : Answer) → answer (r .kind) n (acceptedOf r) i ≡ a → Dictates (r .kind) roster (acceptedOf r) (ask i) (says (askedSays (asked r i))) (acceptedOf r)
-      at l is-last e = rw (call.asked-is r (g .is-size) i is-last l e) (asked-last l (exact (g .fits) i l .last-iff .0 e))
-      at l not-last e = rw (call.asked-is r (g .is-size) i not-last l e) (asked-not l (exact (g .fits) i l .not-iff .0 e))
-      at l is-open e = rw (call.asked-is r (g .is-size) i is-open l e) (asked-open l (exact (g .fits) i l .shown e))
+      at l is-last e = rw (call.asked-is r (g .is-size) i is-last l (by i e)) (asked-last l (exact (g .fits) i l .last-iff .0 e))
+      at l not-last e = rw (call.asked-is r (g .is-size) i not-last l (by i e)) (asked-not l (exact (g .fits) i l .not-iff .0 e))
+      at l is-open e = rw (call.asked-is r (g .is-size) i is-open l (by i e)) (asked-open l (exact (g .fits) i l .shown e))
 
       go : Dec (i < n) → Dictates (r .kind) roster (acceptedOf r) (ask i) (says (askedSays (asked r i))) (acceptedOf r)
       go (yes l) = at l (answer (r .kind) n (acceptedOf r) i) refl
@@ -108,7 +114,7 @@ module _ {roster : List ℕ} {r : Recovery} (g : Good (r .kind) roster r) where
       d = exact (g .fits) i l .shown e
 
       short : (length a < 16 * n) ⊎ (length b < 16 * n) → Dictates (r .kind) roster (acceptedOf r) (show i a b) (shownGives (shown r i a b)) (acceptedOf r)
-      short s = rw (call.shown-short r (g .is-size) i a b l e s) (showed-short l d s)
+      short s = rw (call.shown-short r (g .is-size) i a b l (by i e) s) (showed-short l d s)
 
       go : Dec (length a < 16 * n) → Dec (length b < 16 * n) → Dictates (r .kind) roster (acceptedOf r) (show i a b) (shownGives (shown r i a b)) (acceptedOf r)
       go (yes x) y = short (inl x)
@@ -116,7 +122,7 @@ module _ {roster : List ℕ} {r : Recovery} (g : Good (r .kind) roster r) where
       go (no x) (no y) =
           let u : 16 * n ≤ length a = omega arith in
           let v : 16 * n ≤ length b = omega arith in
-          rw (call.shown-both r (g .is-size) i a b l e u v)
+          rw (kept-shown (g .is-size) (g .kept) i a b l e u v)
           (showed l u v d (holds (recorded (acceptedOf r)) a u (d .first-fits .history .inside)) (holds (second (r .kind) n (acceptedOf r) i) b v (d .second-fits .history .inside)))
 
   show-step : (i : ℕ) (a b : List ℕ) → Dictates (r .kind) roster (acceptedOf r) (show i a b) (shownGives (shown r i a b)) (acceptedOf r)
@@ -127,8 +133,8 @@ module _ {roster : List ℕ} {r : Recovery} (g : Good (r .kind) roster r) where
       n = length roster
 
       at : i < n → (w : Answer) → answer (r .kind) n (acceptedOf r) i ≡ w → Dictates (r .kind) roster (acceptedOf r) (show i a b) (shownGives (shown r i a b)) (acceptedOf r)
-      at l is-last e = rw (call.shown-last r (g .is-size) i a b l e) (showed-decided l (inl (exact (g .fits) i l .last-iff .0 e)))
-      at l not-last e = rw (call.shown-not r (g .is-size) i a b l e) (showed-decided l (inr (exact (g .fits) i l .not-iff .0 e)))
+      at l is-last e = rw (call.shown-last r (g .is-size) i a b l (by i e)) (showed-decided l (inl (exact (g .fits) i l .last-iff .0 e)))
+      at l not-last e = rw (call.shown-not r (g .is-size) i a b l (by i e)) (showed-decided l (inr (exact (g .fits) i l .not-iff .0 e)))
       at l is-open e = open-step i a b l e
 
       go : Dec (i < n) → Dictates (r .kind) roster (acceptedOf r) (show i a b) (shownGives (shown r i a b)) (acceptedOf r)
@@ -138,8 +144,8 @@ module _ {roster : List ℕ} {r : Recovery} (g : Good (r .kind) roster r) where
   -- ---- offering
 
   -- a record is kept
-  keep-good : (p : ℕ) (M : Row) (H : History) → acceptedOf (keeping r p M) ≡ lay (acceptedOf r) p M → Fits (r .kind) (length roster) (lay (acceptedOf r) p M) H → Good (r .kind) roster (keeping r p M)
-  keep-good p M H e f = record {
+  keep-good : (p : ℕ) (M : Row) (H : History) → Kept (keeping r p M) → acceptedOf (keeping r p M) ≡ lay (acceptedOf r) p M → Fits (r .kind) (length roster) (lay (acceptedOf r) p M) H → Good (r .kind) roster (keeping r p M)
+  keep-good p M H t e f = record {
     is-kind = kept-kind r p M;
     is-roster = kept-roster r p M ∙ g .is-roster;
     is-size = kept-size r p M ∙ g .is-size;
@@ -147,6 +153,7 @@ module _ {roster : List ℕ} {r : Recovery} (g : Good (r .kind) roster r) where
     below = g .below;
     all-serials = kept-serials r p M ∙ g .all-serials;
     all-rows = kept-rows r p M ∙ g .all-rows;
+    kept = t;
     some = H;
     fits = subst (λ (A : Accepted). Fits (r .kind) (length roster) A H) (sym e) f;
   }
@@ -193,14 +200,20 @@ module _ {roster : List ℕ} {r : Recovery} (g : Good (r .kind) roster r) where
           iff : (accepts (r .kind) n (acceptedOf r) (x .own) M ≡ true) ↔ ((H : History) × Fits (r .kind) n (lay (acceptedOf r) (x .own) M) H)
           iff = accepts-iff (r .kind) (g .fits) (x .own) M b own-on mourned-on
 
+          on : x .own < sizeOf r
+          on = rw (g .is-size) own-on
+
+          M-on : (q : ℕ) → M q ≡ true → q < sizeOf r
+          M-on q e = rw (g .is-size) (mourned-on q e)
+
           laid-on : acceptedOf (keeping r (x .own) M) ≡ lay (acceptedOf r) (x .own) M
-          laid-on = kept-accepted r (x .own) M (g .all-rows) (rw (g .is-size) own-on) (λ q e. rw (g .is-size) (mourned-on q e))
+          laid-on = kept-accepted r (x .own) M (g .all-rows) on M-on
 
           go : (t : Bool) → accepts (r .kind) n (acceptedOf r) (x .own) M ≡ t → Does (entered r (x .own) M)
           go true e =
               let f = iff .0 e in
               rw (call.entered-new r (g .is-size) (x .own) M b true e)
-              (subst (λ (B : Accepted). Dictates (r .kind) roster (acceptedOf r) (offer bytes) (says D.taken) B) (sym laid-on) (takes s b (f .1)), keep-good (x .own) M (f .0) laid-on (f .1))
+              (subst (λ (B : Accepted). Dictates (r .kind) roster (acceptedOf r) (offer bytes) (says D.taken) B) (sym laid-on) (takes s b (f .1)), keep-good (x .own) M (f .0) (keeping-kept r (x .own) M (g .kept) (g .all-rows) on M-on b) laid-on (f .1))
           go false e = rw (call.entered-new r (g .is-size) (x .own) M b false e) (none-fits s b (λ H f. clash (iff .1 (H, f)) e), g)
 
       enter-step : Does (entered r (x .own) (x .mourned))
@@ -261,20 +274,20 @@ module _ {roster : List ℕ} {r : Recovery} (g : Good (r .kind) roster r) where
   -- ---- the whole, the two sets and the number
 
   whole-step : Dictates (r .kind) roster (acceptedOf r) whole (says (cond (settledOf r) D.settled D.unsettled)) (acceptedOf r)
-  whole-step = rw (call.settled-is r (g .is-size)) (go (settled (r .kind) (length roster) (acceptedOf r)) refl)
+  whole-step = rw (call.settled-is r (g .is-size), kept-settled (g .is-size) (g .kept)) (go (settled (r .kind) (length roster) (acceptedOf r)) refl)
     where
       go : (t : Bool) → settled (r .kind) (length roster) (acceptedOf r) ≡ t → Dictates (r .kind) roster (acceptedOf r) whole (says (cond t D.settled D.unsettled)) (acceptedOf r)
       go true e = whole-settled (settled-iff (g .fits) .0 e)
       go false e = let w = unsettled (g .fits) e in whole-open (w .1) (w .2)
 
   unmourned-step : Dictates (r .kind) roster (acceptedOf r) unmourned (places (unmournedOf r)) (acceptedOf r)
-  unmourned-step = rw (call.unmourned-is r (g .is-size)) (gave-unmourned (unmourned-iff (g .fits)))
+  unmourned-step = rw (kept-unmourned (g .is-size) (g .kept)) (gave-unmourned (unmourned-iff (g .fits)))
 
   absent-step : Dictates (r .kind) roster (acceptedOf r) unmourned-absent (places (unmournedAbsentOf r)) (acceptedOf r)
-  absent-step = rw (call.absent-is r (g .is-size)) (gave-absent (unmourned-iff (g .fits)) (unmourned-absent-iff (length roster) (acceptedOf r)))
+  absent-step = rw (kept-absent (g .is-size) (g .kept)) (gave-absent (unmourned-iff (g .fits)) (unmourned-absent-iff (length roster) (acceptedOf r)))
 
   count-step : Dictates (r .kind) roster (acceptedOf r) unmourned-count (number (unmournedCountOf r)) (acceptedOf r)
-  count-step = rw (call.count-is r (g .is-size)) (gave-count (unmourned-iff (g .fits)))
+  count-step = rw (kept-count (g .is-size) (g .kept)) (gave-count (unmourned-iff (g .fits)))
 
   -- ---- the place of a serial
 
@@ -379,6 +392,7 @@ module _ (kind : ℕ) (roster : List ℕ) (f : Free kind roster) where
     below = f .serials;
     all-serials = fresh-serials (kindOf kind) roster (f .sound .few);
     all-rows = fresh-rows (kindOf kind) roster;
+    kept = fresh-kept (kindOf kind) roster;
     some = λ p. nothing;
     fits = subst (λ (A : Accepted). Fits (kindOf kind) (length roster) A (λ p. nothing)) (sym (fresh-accepted (kindOf kind) roster)) (none-fitted (kindOf kind) (length roster));
   }

@@ -6,7 +6,7 @@ use Prim.Native.Nat.{ℕ, _-_, _<_}
 use lib.ListN.{length, replicate}
 use lib.Dec.{ltb}
 use borrow.Author.Tests.{ltb-true, ne-eqb}
-use Rattle.places.specs.Sets.{Places, nothing, difference, with, count}
+use Rattle.places.specs.Sets.{Places, nothing, below, union, difference, with, count}
 use Rattle.places.specs.PlaceSets.{has, kept, Words, packed}
 use Rattle.places.specs.declared.PlaceSet.{PlaceSet}
 use Rattle.places.proofs.Booleans.{and-left}
@@ -39,14 +39,14 @@ none-packed : (e : PlaceSet) → Words e → has e ≡ nothing → e ≡ packed 
 none-packed e w h = packed-is e nothing w h
 
 pub fresh-is : (k : Kind) (s serials : List ℕ) (e : PlaceSet) (w : List ℕ) → serials ≡ s ++ replicate (128 - length s) 0 → Words e → has e ≡ nothing → w ≡ noRows
-    → record { kind = k; count = length s; serials = serials; returned = e; rows = w } ≡ fresh k s
+    → record { kind = k; count = length s; serials = serials; returned = e; mourned = e; rows = w } ≡ fresh k s
 unfolding fresh
-fresh-is k s serials e w p we he q = λ i. record { kind = k; count = length s; serials = p i; returned = none-packed e we he i; rows = q i }
+fresh-is k s serials e w p we he q = λ i. record { kind = k; count = length s; serials = p i; returned = none-packed e we he i; mourned = none-packed e we he i; rows = q i }
 
 pub unopened-is : (j : ℕ) (e : PlaceSet) (w : List ℕ) → Words e → has e ≡ nothing → w ≡ noRows
-    → record { answer = G.Refused j; recovery = record { kind = Full; count = 0; serials = replicate 128 0; returned = e; rows = w } } ≡ unopened j
+    → record { answer = G.Refused j; recovery = record { kind = Full; count = 0; serials = replicate 128 0; returned = e; mourned = e; rows = w } } ≡ unopened j
 unfolding unopened fresh
-unopened-is j e w we he q = λ i. record { answer = G.Refused j; recovery = record { kind = Full; count = 0; serials = replicate 128 0; returned = none-packed e we he i; rows = q i } }
+unopened-is j e w we he q = λ i. record { answer = G.Refused j; recovery = record { kind = Full; count = 0; serials = replicate 128 0; returned = none-packed e we he i; mourned = none-packed e we he i; rows = q i } }
 
 pub opened-sound : (k : Kind) (s : List ℕ) (l : Listed) → l ≡ listed s → l ≡ L.Sound → record { answer = G.Opened; recovery = fresh k s } ≡ openedAs k s (listed s)
 unfolding openedAs
@@ -70,14 +70,16 @@ opened-unknown kind s a b = rw (ne-eqb kind 1 a, ne-eqb kind 2 b)
 
 -- ---- keeping
 
-pub keep-is : (r : Recovery) (p : ℕ) (m w : PlaceSet) (t : List ℕ) → Words m → Words w → has w ≡ kept (with p (has (r .returned))) → t ≡ withRow (r .rows) p m
-    → record { kind = r .kind; count = r .count; serials = r .serials; returned = w; rows = t } ≡ keeping r p (has m)
+pub keep-is : (r : Recovery) (p : ℕ) (m w g : PlaceSet) (t : List ℕ) → Words m → Words w → Words g → has w ≡ kept (with p (has (r .returned)))
+    → has g ≡ union (has (r .mourned)) (has m) → t ≡ withRow (r .rows) p m
+    → record { kind = r .kind; count = r .count; serials = r .serials; returned = w; mourned = g; rows = t } ≡ keeping r p (has m)
 unfolding keeping
-keep-is r p m w t hm hw e q = λ i. record {
+keep-is r p m w g t hm hw hg e f q = λ i. record {
   kind = r .kind;
   count = r .count;
   serials = r .serials;
   returned = packed-is w (with p (has (r .returned))) hw e i;
+  mourned = packed-is g (union (has (r .mourned)) (has m)) hg (sym (kept-has g) ∙ ap kept f) i;
   rows = (q ∙ ap (withRow (r .rows) p) (packed-is m (has m) hm (sym (kept-has m)))) i;
 }
 
@@ -94,8 +96,8 @@ asked-words R.is-last = refl
 asked-words R.not-last = refl
 asked-words R.is-open = refl
 
-pub asked-on : (r : Recovery) (n : ℕ) → sizeOf r ≡ n → (i : ℕ) → i < n → (b : declared.Answer) → b ≡ answerOf (R.answer (r .kind) n (acceptedOf r) i) → askedOf b ≡ asked r i
-asked-on r n is i h b e = ap askedOf e ∙ asked-words (R.answer (r .kind) n (acceptedOf r) i) ∙ sym (asked-is r is i (R.answer (r .kind) n (acceptedOf r) i) h refl)
+pub asked-on : (r : Recovery) (n : ℕ) → sizeOf r ≡ n → (i : ℕ) → i < n → (b : declared.Answer) → b ≡ answerOf (R.answerBy (r .kind) n (acceptedOf r) (has (r .mourned)) i) → askedOf b ≡ asked r i
+asked-on r n is i h b e = ap askedOf e ∙ asked-words (R.answerBy (r .kind) n (acceptedOf r) (has (r .mourned)) i) ∙ sym (asked-is r is i (R.answerBy (r .kind) n (acceptedOf r) (has (r .mourned)) i) h refl)
 
 -- ---- the sets and the number
 
@@ -107,14 +109,13 @@ unmourned-inside n k m b = go (ltb k n)
     go false = refl
 
 pub absent-set : (r : Recovery) (u d : PlaceSet) → has u ≡ unmournedOf r → has d ≡ difference (has u) (has (r .returned)) → has d ≡ unmournedAbsentOf r
-unfolding unmournedOf unmournedAbsentOf R.unmournedAbsent R.unmourned acceptedOf acceptedIn sizeOf
+unfolding unmournedOf unmournedAbsentOf acceptedOf acceptedIn sizeOf
 absent-set r u d e f =
-    f ∙ ap (λ (U : Places). difference U (has (r .returned))) e
-    ∙ fun-ext (λ k. unmourned-inside (size (r .count)) k (R.mourned (size (r .count)) (acceptedIn (r .count) (has (r .returned)) (r .rows)) k) (has (r .returned) k))
+    f ∙ ap (λ (U : Places). difference U (has (r .returned))) e ∙ fun-ext (λ k. unmourned-inside (size (r .count)) k (has (r .mourned) k) (has (r .returned) k))
 
 pub count-set : (r : Recovery) (u : PlaceSet) (c : ℕ) → has u ≡ unmournedOf r → c ≡ count 128 (has u) → c ≡ unmournedCountOf r
-unfolding unmournedOf unmournedCountOf R.unmournedCount R.unmourned sizeOf
+unfolding unmournedOf unmournedCountOf sizeOf
 count-set r u c e f =
     f ∙ ap (count 128) e
-    ∙ count-within (size (r .count)) 128 (R.unmourned (size (r .count)) (acceptedOf r)) (size-at-most (r .count))
-    (λ k t. ltb-true k (size (r .count)) (and-left (ltb k (size (r .count))) (not (R.mourned (size (r .count)) (acceptedOf r) k)) t))
+    ∙ count-within (size (r .count)) 128 (difference (below (size (r .count))) (has (r .mourned))) (size-at-most (r .count))
+    (λ k t. ltb-true k (size (r .count)) (and-left (ltb k (size (r .count))) (not (has (r .mourned) k)) t))

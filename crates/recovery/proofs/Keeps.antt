@@ -1,25 +1,33 @@
--- Which records a recovery has accepted: a fresh one has none, and keeping a record lays it on the others. Assumes nothing.
-use mathlib.Core.Path.{_≡_, refl, sym, ap, _∙_}
+-- Which records a recovery has accepted, and what it keeps beside them: a fresh one has none, and keeping a record lays it on the others.
+-- Assumes nothing.
+use mathlib.Core.Path.{_≡_, refl, sym, ap, ap₂, _∙_, fun-ext}
 use mathlib.Core.Bool.{Bool, true, false, cond, _&&_, _||_, and-false}
+use mathlib.Core.Logic.{_⊎_, inl, inr}
 use mathlib.Core.List.{List}
-use Prim.Native.Nat.{ℕ, _-_, _<_, _≤_}
+use Prim.Native.Nat.{ℕ, _-_, _*_, _<_, _≤_}
 use native.Mathlib.Omega.{arith}
 use lib.ListN.{length, replicate, length-append, length-replicate}
 use lib.Seq.{take-append-seam}
 use lib.Dec.{eqb, ltb, leb}
 use borrow.Author.Tests.{eqb-true, eqb-false, lt-ltb, le-leb, ltb-true, leb-true, ne-eqb}
-use Rattle.places.specs.Sets.{Places, nothing, with}
+use Rattle.places.specs.Sets.{Places, nothing, below, union, difference, with, count, lowest}
 use Rattle.places.specs.PlaceSets.{has, packed}
 use Rattle.places.specs.declared.PlaceSet.{PlaceSet}
-use Rattle.places.proofs.Booleans.{clash, and-left}
-use Rattle.places.proofs.Laws.{kept-all, kept-with, has-packed}
+use Rattle.places.proofs.Booleans.{clash, and-left, or-cases}
+use Rattle.places.proofs.Tests.{none-any}
+use Rattle.places.proofs.Laws.{kept-all, kept-with, has-packed, has-below}
 use Rattle.histories.specs.declared.Kind.{Kind}
-use Rattle.histories.specs.Histories.{Row, none, lay}
-use Rattle.rows.specs.Rows.{noRows, rowsOf, withRow}
+use Rattle.histories.specs.Histories.{Row, History, Accepted, none, lay}
+use Rattle.histories.specs.Rule.{is-open, recorded, mourned, blockersBy, blockers, answerBy, answer, settledBy, settled, unmourned, unmournedAbsent, inherited, grown, second}
+use Rattle.histories.proofs.Accepts.{laid-recorded, laid-mourned}
+use Rattle.rows.specs.Rows.{noRows, rowsOf, withRow, laid}
 use Rattle.rows.proofs.Laws.{rows-of, no-rows-length, rows-with, rows-other, with-length}
 use Rattle.answers.specs.Views.{size, acceptedIn}
+use Rattle.shows.specs.Shows.{replaced}
+use Rattle.shows.specs.declared.Showing.the-variants as S
 use Rattle.recovery.specs.declared.Recovery.{Recovery}
-use Rattle.recovery.specs.Contracts.{sizeOf, rosterOf, acceptedOf, fresh, keeping}
+use Rattle.recovery.specs.Contracts.{sizeOf, rosterOf, acceptedOf, Kept, fresh, keeping, shown, unmournedOf, unmournedAbsentOf, unmournedCountOf}
+use Rattle.recovery.proofs.Calls.{shown-both, unmourned-is}
 
 -- ---- any recovery
 
@@ -43,7 +51,7 @@ row-on r p q e = ltb-true q (size (r .count)) (and-left (ltb q (size (r .count))
 -- ---- a fresh one
 
 module _ (k : Kind) (s : List ℕ) where
-  pub fresh-rows : length (fresh k s .rows) ≡ 256
+  pub fresh-rows : length (fresh k s .rows) ≡ 2048
   unfolding fresh
   fresh-rows = no-rows-length
 
@@ -85,7 +93,7 @@ module _ (n p : ℕ) (few : n ≤ 128) (on : p < n) where
       go true e = refl
       go false e = sym (ne-eqb x p (λ q. clash (lt-ltb x n (omega arith)) e))
 
-  module _ (M : Row) (M-on : (q : ℕ) → M q ≡ true → q < n) (rows : List ℕ) (all : length rows ≡ 256) where
+  module _ (M : Row) (M-on : (q : ℕ) → M q ≡ true → q < n) (rows : List ℕ) (all : length rows ≡ 2048) where
     kept-row : (x q : ℕ) → ltb q n && rowsOf (withRow rows p (packed M)) x q ≡ cond (eqb x p) M (λ q. ltb q n && rowsOf rows x q) q
     kept-row x q = go (eqb x p) refl
       where
@@ -105,7 +113,7 @@ module _ (n p : ℕ) (few : n ≤ 128) (on : p < n) where
 
 module _ (r : Recovery) (p : ℕ) (M : Row) where
   -- the record of p lies on the others, and its mourned set is M
-  pub kept-accepted : length (r .rows) ≡ 256 → p < sizeOf r → ((q : ℕ) → M q ≡ true → q < sizeOf r) → acceptedOf (keeping r p M) ≡ lay (acceptedOf r) p M
+  pub kept-accepted : length (r .rows) ≡ 2048 → p < sizeOf r → ((q : ℕ) → M q ≡ true → q < sizeOf r) → acceptedOf (keeping r p M) ≡ lay (acceptedOf r) p M
   unfolding acceptedOf acceptedIn keeping sizeOf
   kept-accepted all on M-on = λ i. record {
     returned = λ x. kept-returned (sizeOf r) p (size-few r) on (r .returned) x i;
@@ -132,3 +140,79 @@ module _ (r : Recovery) (p : ℕ) (M : Row) where
   pub kept-rows : length (keeping r p M .rows) ≡ length (r .rows)
   unfolding keeping
   kept-rows = with-length (r .rows) p (packed M)
+
+-- ---- what is kept
+
+-- nobody is mourned, and every row is empty
+pub fresh-kept : (k : Kind) (s : List ℕ) → Kept (fresh k s)
+unfolding fresh mourned recorded
+fresh-kept k s = record {
+  mourned = has-packed nothing ∙ fun-ext (λ q. sym (none-any n (λ p. recorded none p q) (λ p l. refl))) ∙ ap (mourned n) (sym (fresh-accepted k s));
+  rows = fun-ext (λ p. rows-of p ∙ ap (λ (A : Accepted). recorded A p) (sym (fresh-accepted k s)));
+}
+  where
+    n : ℕ
+    n = sizeOf (fresh k s)
+
+-- the new record's places join the mourned ones, and its row the others
+module _ (r : Recovery) (p : ℕ) (M : Row) (t : Kept r) (all : length (r .rows) ≡ 2048) (on : p < sizeOf r) (M-on : (q : ℕ) → M q ≡ true → q < sizeOf r) where
+  small : (q : ℕ) → M q ≡ true → q < 128
+  small q e = omega (arith, M-on q e, size-few r)
+
+  pub keeping-kept : acceptedOf r .returned p ≡ false → Kept (keeping r p M)
+  unfolding keeping sizeOf
+  keeping-kept absent = record {
+    mourned = has-packed (union (has (r .mourned)) M) ∙ kept-all (union (has (r .mourned)) M) (λ q e. both q (or-cases (has (r .mourned) q) (M q) e))
+        ∙ ap (λ (S : Places). union S M) (t .mourned) ∙ sym (laid-mourned (sizeOf r) (acceptedOf r) p M absent on) ∙ ap (mourned (sizeOf r)) (sym laid-on);
+    rows = fun-ext (λ x. at x (eqb x p) refl ∙ sym (laid-recorded (acceptedOf r) p M x) ∙ ap (λ (A : Accepted). recorded A x) (sym laid-on));
+  }
+    where
+      laid-on : acceptedOf (keeping r p M) ≡ lay (acceptedOf r) p M
+      laid-on = kept-accepted r p M all on M-on
+
+      both : (q : ℕ) → (has (r .mourned) q ≡ true) ⊎ (M q ≡ true) → q < 128
+      both q (inl e) = has-below (r .mourned) q e
+      both q (inr e) = small q e
+
+      at : (x : ℕ) (b : Bool) → eqb x p ≡ b → rowsOf (withRow (r .rows) p (packed M)) x ≡ cond b M (recorded (acceptedOf r) x)
+      at x true e =
+          ap (rowsOf (withRow (r .rows) p (packed M))) (eqb-true x p e) ∙ rows-with (r .rows) p (packed M) all (omega (arith, size-few r)) ∙ has-packed M ∙ kept-all M small
+      at x false e = rows-other (r .rows) p x (packed M) (eqb-false x p e) ∙ ap (λ (H : History). H x) (t .rows)
+
+-- ---- the calls of one that has kept all: what they give is the rule's
+
+module _ {r : Recovery} {n : ℕ} (is : sizeOf r ≡ n) (t : Kept r) where
+  named : has (r .mourned) ≡ mourned n (acceptedOf r)
+  named = t .mourned ∙ ap (λ (m : ℕ). mourned m (acceptedOf r)) is
+
+  pub kept-answer : (i : ℕ) → answerBy (r .kind) n (acceptedOf r) (has (r .mourned)) i ≡ answer (r .kind) n (acceptedOf r) i
+  unfolding answer
+  kept-answer i = ap (λ (M : Row). answerBy (r .kind) n (acceptedOf r) M i) named
+
+  pub kept-settled : settledBy (r .kind) n (acceptedOf r) (has (r .mourned)) ≡ settled (r .kind) n (acceptedOf r)
+  unfolding settled
+  kept-settled = ap (settledBy (r .kind) n (acceptedOf r)) named
+
+  kept-second : (i : ℕ)
+      → replaced (rowsOf (r .rows)) (lowest n (blockersBy (r .kind) n (acceptedOf r) (has (r .mourned)) i)) (with i (inherited (r .kind) (acceptedOf r) i)) ≡ second (r .kind) n (acceptedOf r) i
+  unfolding replaced second grown blockers
+  kept-second i =
+      ap₂ (λ (H : History) (M : Row). replaced H (lowest n (blockersBy (r .kind) n (acceptedOf r) M i)) (with i (inherited (r .kind) (acceptedOf r) i))) (t .rows) named
+
+  pub kept-shown : (i : ℕ) (a b : List ℕ) → i < n → answer (r .kind) n (acceptedOf r) i ≡ is-open → 16 * n ≤ length a → 16 * n ≤ length b
+      → shown r i a b ≡ record { answer = S.Shown; first = laid n (recorded (acceptedOf r)) a; second = laid n (second (r .kind) n (acceptedOf r) i) b }
+  kept-shown i a b l e u v =
+      shown-both r is i a b l (kept-answer i ∙ e) u v
+      ∙ ap₂ (λ (F G : History). record { answer = S.Shown; first = laid n F a; second = laid n G b }) (t .rows) (kept-second i)
+
+  pub kept-unmourned : unmournedOf r ≡ unmourned n (acceptedOf r)
+  unfolding unmourned
+  kept-unmourned = unmourned-is r is ∙ ap (difference (below n)) named
+
+  pub kept-absent : unmournedAbsentOf r ≡ unmournedAbsent n (acceptedOf r)
+  unfolding unmournedAbsentOf unmournedAbsent
+  kept-absent = ap (λ (S : Row). difference S (acceptedOf r .returned)) kept-unmourned
+
+  pub kept-count : unmournedCountOf r ≡ count n (unmourned n (acceptedOf r))
+  unfolding unmournedCountOf
+  kept-count = ap₂ count is kept-unmourned

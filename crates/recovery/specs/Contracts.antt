@@ -1,21 +1,23 @@
 -- What each call gives, and each lent byte afterwards, for every recovery and every input: the definitions that the contracts
 -- cite. Assumes nothing.
+use mathlib.Core.Path.{_≡_}
 use mathlib.Core.Bool.{Bool, cond, _&&_}
 use mathlib.Core.List.{List, [], _++_}
 use Prim.Native.Nat.{ℕ, _-_, _*_}
 use lib.ListN.{length, take, replicate}
 use lib.Dec.{leb, ltb}
-use Rattle.places.specs.Sets.{nothing, with}
+use Rattle.places.specs.Sets.{nothing, below, union, difference, with, count}
 use Rattle.places.specs.PlaceSets.{has, packed, found}
 use Rattle.places.specs.declared.Found.{Found}
 use Rattle.histories.specs.declared.Kind.{Kind}
 use Rattle.histories.specs.declared.Kind.the-variants.{Full}
 use Rattle.histories.specs.Histories.{Row, History, Accepted}
-use Rattle.histories.specs.Rule.{Answer, is-last, not-last, is-open, answer, fitsTest, settled, unmourned, unmournedAbsent, unmournedCount}
+use Rattle.histories.specs.Rule as rule
+use Rattle.histories.specs.Rule.{Answer, is-last, not-last, is-open, recorded, answerBy, settledBy, fitsTest}
 use Rattle.rosters.specs.Rosters.{placeOf, listed}
 use Rattle.rosters.specs.declared.Listed.{Listed}
 use Rattle.rosters.specs.declared.Listed.the-variants as L
-use Rattle.rows.specs.Rows.{noRows, withRow, historyIn}
+use Rattle.rows.specs.Rows.{noRows, rowsOf, withRow, historyIn}
 use Rattle.records.specs.Layout.{Parsed, got, refused, knownKind, kindOf, Stored, lone, layout}
 use Rattle.records.specs.Records.{sameList, Written, unwritten, writtenAt}
 use Rattle.answers.specs.Views.{size, acceptedIn}
@@ -46,11 +48,18 @@ rosterOf r = take (sizeOf r) (r .serials)
 unfoldable pub acceptedOf : Recovery → Accepted
 acceptedOf r = acceptedIn (r .count) (has (r .returned)) (r .rows)
 
+-- what holds of every recovery from its opening on (proofs/Demand.antt, `Good`): the mourned places that it keeps are those
+-- that its accepted records name, and it has an empty row for each place that is not back. The calls go by what is kept, so
+-- that asking need not collect it, and showing need not clean it
+pub record Kept (r : Recovery) : Type 0 where
+  pub mourned : has (r .mourned) ≡ rule.mourned (sizeOf r) (acceptedOf r)
+  pub rows : rowsOf (r .rows) ≡ recorded (acceptedOf r)
+
 -- ---- opening: 2, then 3, 4, 5, or opened
 
 -- a roster, and nobody back
 unfoldable pub fresh : Kind → List ℕ → Recovery
-fresh k s = record { kind = k; count = length s; serials = s ++ replicate (128 - length s) 0; returned = packed nothing; rows = noRows }
+fresh k s = record { kind = k; count = length s; serials = s ++ replicate (128 - length s) 0; returned = packed nothing; mourned = packed nothing; rows = noRows }
 
 -- a refused opening gives a recovery of no places
 unfoldable pub unopened : ℕ → Opened
@@ -80,6 +89,7 @@ keeping r p M = record {
   count = r .count;
   serials = r .serials;
   returned = packed (with p (has (r .returned)));
+  mourned = packed (union (has (r .mourned)) M);
   rows = withRow (r .rows) p (packed M);
 }
 
@@ -107,7 +117,7 @@ offered r bytes = offeredAs r (lone bytes)
 -- ---- asking: 12, or the answer
 
 unfoldable pub answerAt : Recovery → ℕ → Answer
-answerAt r i = answer (r .kind) (sizeOf r) (acceptedOf r) i
+answerAt r i = answerBy (r .kind) (sizeOf r) (acceptedOf r) (has (r .mourned)) i
 
 unfoldable pub askedAs : Answer → Asked
 askedAs is-last = A.Last
@@ -120,7 +130,7 @@ asked r i = cond (ltb i (sizeOf r)) (askedAs (answerAt r i)) (A.Refused 12)
 -- ---- showing: 12, decided, 13, or both histories laid down
 
 unfoldable pub shown : Recovery → ℕ → List ℕ → List ℕ → Shown
-shown r i a b = shownIn (r .kind) (sizeOf r) (acceptedOf r) i a b
+shown r i a b = shownIn (r .kind) (sizeOf r) (acceptedOf r) (has (r .mourned)) (rowsOf (r .rows)) i a b
 
 -- ---- checking a lent history: 13, 15, or whether it fits
 
@@ -134,16 +144,16 @@ checked r h = cond (leb (16 * sizeOf r) (length h)) (checkedRows r (historyIn (s
 -- ---- the whole, the two sets and the number
 
 unfoldable pub settledOf : Recovery → Bool
-settledOf r = settled (r .kind) (sizeOf r) (acceptedOf r)
+settledOf r = settledBy (r .kind) (sizeOf r) (acceptedOf r) (has (r .mourned))
 
 unfoldable pub unmournedOf : Recovery → Row
-unmournedOf r = unmourned (sizeOf r) (acceptedOf r)
+unmournedOf r = difference (below (sizeOf r)) (has (r .mourned))
 
 unfoldable pub unmournedAbsentOf : Recovery → Row
-unmournedAbsentOf r = unmournedAbsent (sizeOf r) (acceptedOf r)
+unmournedAbsentOf r = difference (unmournedOf r) (acceptedOf r .returned)
 
 unfoldable pub unmournedCountOf : Recovery → ℕ
-unmournedCountOf r = unmournedCount (sizeOf r) (acceptedOf r)
+unmournedCountOf r = count (sizeOf r) (unmournedOf r)
 
 -- ---- the place of a serial
 

@@ -23,12 +23,14 @@ use rosters::Serial;
 use rows::Rows;
 use shows::Showing;
 
-// The first `count` of `serials` are the roster. A place in `returned` is back, and its row is its record's mourned set.
+// The first `count` of `serials` are the roster. A place in `returned` is back, and its row is its record's mourned set; every other row is
+// empty. `mourned` has all that stand in a row.
 pub struct Recovery {
     pub kind: Kind,
     pub count: usize,
     pub serials: [u32; 128],
     pub returned: PlaceSet,
+    pub mourned: PlaceSet,
     pub rows: Rows,
 }
 
@@ -68,13 +70,14 @@ fn fresh(kind: Kind, list: &[u32]) -> Recovery
     ensures { λ r. ⌜ r ≡ contracts.fresh kind (now (list .entry)) ⌝ }
 {
     let serials = rosters::padded(list);
-    let returned = places::empty();
+    let nobody = places::empty();
     let rows = rows::none();
     Recovery {
         kind,
         count: list.len(),
         serials,
-        returned,
+        returned: nobody,
+        mourned: nobody,
         rows,
     }
 }
@@ -84,13 +87,14 @@ fn unopened(fault: u8) -> Opened
     ensures { λ s. ⌜ s ≡ contracts.unopened fault ⌝ }
 {
     let serials = [0u32; 128];
-    let returned = places::empty();
+    let nobody = places::empty();
     let rows = rows::none();
     let recovery = Recovery {
         kind: Kind::Full,
         count: 0,
         serials,
-        returned,
+        returned: nobody,
+        mourned: nobody,
         rows,
     };
     Opened {
@@ -134,6 +138,8 @@ pub fn keep(r: Recovery, own: Place, mourned: PlaceSet) -> Recovery
     let mut next = r;
     let returned = next.returned;
     next.returned = places::with(returned, own);
+    let named = next.mourned;
+    next.mourned = places::union(named, mourned);
     rows::set(&mut next.rows, own, mourned);
     next
 }
@@ -195,11 +201,12 @@ pub fn ask(r: Recovery, place: Place) -> Asked
     let count = r.count;
     let kind = r.kind;
     let returned = r.returned;
+    let mourned = r.mourned;
     let n = answers::size(count);
     if n <= place.0 {
         return Asked::Refused(12);
     }
-    let answer = answers::answer_for(kind, &r.rows, returned, count, place);
+    let answer = answers::answer_for(kind, &r.rows, returned, mourned, count, place);
     match answer {
         Answer::Last => Asked::Last,
         Answer::NotLast => Asked::NotLast,
@@ -220,8 +227,7 @@ pub fn find(r: Recovery, serial: Serial) -> Found
 pub fn unmourned(r: Recovery) -> PlaceSet
     ensures { λ s. ⌜ has s ≡ unmournedOf r ⌝ }
 {
-    let returned = r.returned;
-    answers::unmourned(&r.rows, returned, r.count)
+    answers::unmourned(r.mourned, r.count)
 }
 
 // The unmourned places that are absent.
@@ -247,7 +253,8 @@ pub fn settled(r: Recovery) -> bool
 {
     let kind = r.kind;
     let returned = r.returned;
-    answers::settled(kind, &r.rows, returned, r.count)
+    let mourned = r.mourned;
+    answers::settled(kind, &r.rows, returned, mourned, r.count)
 }
 
 // Checks a lent history: 13, 15, or whether it fits.
@@ -298,5 +305,15 @@ pub fn show(r: Recovery, place: Place, first: &mut [u8], second: &mut [u8]) -> S
 {
     let kind = r.kind;
     let returned = r.returned;
-    shows::show(kind, &r.rows, returned, r.count, place, first, second)
+    let mourned = r.mourned;
+    shows::show(
+        kind,
+        &r.rows,
+        returned,
+        mourned,
+        r.count,
+        place,
+        first,
+        second,
+    )
 }

@@ -5,12 +5,13 @@ use mathlib.Core.List.{List, [], _∷_, _++_, append-assoc, append-nil}
 use Prim.Native.Nat.{ℕ, zero, suc, _+_, _-_, _*_, _/_, _%_, _^_, _<_, _≤_}
 use native.Mathlib.Omega.{arith}
 use native.Mathlib.Nat.{mod-lt, zero-lt-suc, le-of-suc-le-suc, div-one}
+use native.Mathlib.Numerals.{add-one}
 use lib.Arith.{mod-mul}
 use lib.Bits.{block-half, block-odd}
 use lib.Pow.{pow-pos, shr-shr, high}
 use lib.Dec.{eqb, ltb}
-use lib.ListN.{length, getD, take, drop, length-append, length-take, length-drop}
-use lib.Seq.{sets, sets-eq, take-all, take-at, drop-at, drop-drop, drop-length, getD-drop}
+use lib.ListN.{length, getD, set, take, drop, length-append, length-take, length-drop}
+use lib.Seq.{sets, sets-eq, take-all, take-at, drop-at, drop-drop, drop-length, getD-drop, paste-suc}
 use borrow.Author.Tests.{ltb-true, ltb-false, lt-ltb, le-leb, lt-leb}
 use borrow.Rule.Slice.PartMut.{putMid, midOf, postOf, post-is}
 use Rattle.places.specs.Sets.{Places, nothing}
@@ -38,7 +39,7 @@ digit : (x : ℕ) → cond (bit x 0) 1 0 ≡ x % 2
 digit x = ap (λ (b : Bool). cond b 1 0) (bit-low x) ∙ below-two (λ (y : ℕ). cond (eqb y 1) 1 0 ≡ y) refl refl (x % 2) (mod-lt x (zero-lt-suc 1))
 
 -- the number made of the n lowest digits of x
-word-rest : (n x : ℕ) (S : Places) → ((k : ℕ) → k < n → S k ≡ bit x k) → word n S ≡ x % 2 ^ n
+pub word-rest : (n x : ℕ) (S : Places) → ((k : ℕ) → k < n → S k ≡ bit x k) → word n S ≡ x % 2 ^ n
 unfolding word
 word-rest zero x S h = omega arith
 word-rest (suc n) x S h =
@@ -59,7 +60,7 @@ word-same zero S T h = refl
 word-same (suc n) S T h =
     ap₂ (λ (a : ℕ) (b : Bool). a * 2 + cond b 1 0) (word-same n (λ k. S (suc k)) (λ k. T (suc k)) (λ k l. h (suc k) (omega arith))) (h 0 (omega arith))
 
-bytes-same : (m i j : ℕ) (S T : Places) → ((k : ℕ) → k < 8 * m → S (8 * i + k) ≡ T (8 * j + k)) → bytesFrom m i S ≡ bytesFrom m j T
+pub bytes-same : (m i j : ℕ) (S T : Places) → ((k : ℕ) → k < 8 * m → S (8 * i + k) ≡ T (8 * j + k)) → bytesFrom m i S ≡ bytesFrom m j T
 unfolding bytesFrom
 bytes-same zero i j S T h = refl
 bytes-same (suc m) i j S T h =
@@ -186,9 +187,9 @@ module _ (l : List ℕ) (bytes : (i : ℕ) → getD l i 0 < 256) where
       let i : 0 + k / 8 ≡ k / 8 = omega arith in
       ap (λ (y : ℕ). bit y k) s ∙ bit-joined 8 0 k h ∙ ap (λ (y : ℕ). bit (getD l y 0) (k % 8)) i
 
-pub row-misfits : (s : PlaceSet) (b : List ℕ) (at : ℕ) → length b < at + 16 → has s ≡ nothing → has s ≡ rowIn b at
+pub row-out : (b : List ℕ) (at : ℕ) → length b < at + 16 → rowIn b at ≡ nothing
 unfolding rowIn
-row-misfits s b at h e = e ∙ fun-ext (λ q. sym (ap (λ (t : Bool). t && (ltb q 128 && bit (getD b (at + q / 8) 0) (q % 8))) (lt-leb (at + 16) (length b) h)))
+row-out b at h = fun-ext (λ q. ap (λ (t : Bool). t && (ltb q 128 && bit (getD b (at + q / 8) 0) (q % 8))) (lt-leb (at + 16) (length b) h))
 
 -- a digit of a word that was read from a part
 part-bit : (b : List ℕ) (a i k : ℕ) → bit (getD (midOf a (length b - a) b) i 0) k ≡ bit (getD b (a + i) 0) k
@@ -215,3 +216,12 @@ row-fits s b at h low high =
         has-upper s q l m ∙ high (q - 64) (omega arith) ∙ part-bit b (at + 8) ((q - 64) / 8) ((q - 64) % 8) ∙ ap₂ (λ (x y : ℕ). bit (getD b x 0) y) i r
         ∙ sym (ap (λ (t : Bool). t && bit (getD b (at + q / 8) 0) (q % 8)) f)
     go q false false e f = has-past s q (ltb-false q 128 f) ∙ sym (ap (λ (t : Bool). t && bit (getD b (at + q / 8) 0) (q % 8)) f)
+
+-- ---- bytes copied
+
+-- one byte more is in its place
+pub copied : (out b : List ℕ) (i : ℕ) → i < length out → i < length b → set (take i b ++ drop i out) i (getD b i 0) ≡ take (i + 1) b ++ drop (i + 1) out
+copied out b i h k =
+    let z : 0 + i ≡ i = omega arith in
+    let y : 0 + suc i ≡ i + 1 = omega arith in
+    rw (z, y, ← add-one) at (paste-suc out 0 b i 0 (rw z h) k)

@@ -1,36 +1,12 @@
--- Rows in a table and as bytes. Assumes nothing.
-use mathlib.Core.Bool.{Bool, cond, _&&_}
+-- Rows as bytes, and a table of them. Assumes nothing.
+use mathlib.Core.Bool.{cond, _&&_}
 use mathlib.Core.List.{List, [], _∷_, _++_}
 use Prim.Native.Nat.{ℕ, zero, suc, _+_, _*_, _/_, _%_}
-use lib.ListN.{length, getD, set, take, drop, replicate}
+use lib.ListN.{length, getD, take, drop, replicate}
 use lib.Dec.{leb, ltb}
 use Rattle.places.specs.Sets.{Places}
 use Rattle.places.specs.PlaceSets.{bit, has, word, packed}
 use Rattle.places.specs.declared.PlaceSet.{PlaceSet}
-
--- ---- a table: two numbers for each place
-
-unfoldable pub noRows : List ℕ
-noRows = replicate 256 0
-
-unfoldable pub rowAt : List ℕ → ℕ → PlaceSet
-rowAt w p = record { low = getD w (p * 2) 0; high = getD w (p * 2 + 1) 0 }
-
--- the rows of a table, by their members
-unfoldable pub rowsOf : List ℕ → ℕ → Places
-rowsOf w p = has (rowAt w p)
-
--- the table with another row for p
-unfoldable pub withRow : List ℕ → ℕ → PlaceSet → List ℕ
-withRow w p s = set (set w (p * 2) (s .low)) (p * 2 + 1) (s .high)
-
--- the table of given rows, as far as two words hold them: m rows from row p on, and all 128
-unfoldable pub tableFrom : ℕ → ℕ → (ℕ → Places) → List ℕ
-tableFrom zero p H = []
-tableFrom (suc m) p H = packed (H p) .low ∷ packed (H p) .high ∷ tableFrom m (suc p) H
-
-unfoldable pub tableOf : (ℕ → Places) → List ℕ
-tableOf H = tableFrom 128 0 H
 
 -- ---- rows as bytes: document 01, 'Histories'
 
@@ -61,3 +37,24 @@ rowsFrom (suc m) p H = rowBytes (H p) ++ rowsFrom m (suc p) H
 
 unfoldable pub laid : ℕ → (ℕ → Places) → List ℕ → List ℕ
 laid n H out = rowsFrom n 0 H ++ drop (16 * n) out
+
+-- ---- a table: the bytes of 128 rows
+
+unfoldable pub noRows : List ℕ
+noRows = replicate 2048 0
+
+-- the rows of a table, by their members
+unfoldable pub rowsOf : List ℕ → ℕ → Places
+rowsOf w p = rowIn w (16 * p)
+
+-- a row as a set of two words
+unfoldable pub rowAt : List ℕ → ℕ → PlaceSet
+rowAt w p = packed (rowsOf w p)
+
+-- the table with another row for p
+unfoldable pub withRow : List ℕ → ℕ → PlaceSet → List ℕ
+withRow w p s = putRow w (16 * p) (has s)
+
+-- the table of given rows: of each the places below 128
+unfoldable pub tableOf : (ℕ → Places) → List ℕ
+tableOf H = rowsFrom 128 0 H

@@ -1,65 +1,18 @@
-// Tables of sets, a row for each of 128 places, and rows as bytes. With `places` this is the only crate that looks into the
-// two words of a set.
+// Rows as bytes, 16 a row, and tables of them, a row for each of 128 places. With `places` this is the only crate that looks
+// into the two words of a set.
 ghost use mathlib.Core.Path.{_≡_};
+ghost use mathlib.Core.Bool.{cond, _&&_};
 ghost use mathlib.Core.List.{_++_};
-ghost use Prim.Native.Nat.{ℕ, _<_, _≤_, _/_, _%_};
-ghost use lib.ListN.{length, getD, drop};
+ghost use Prim.Native.Nat.{ℕ, _*_, _<_, _≤_, _/_, _%_};
+ghost use lib.Dec.{leb};
+ghost use lib.ListN.{length, getD, take, drop};
 ghost use Rattle.places.specs.PlaceSets.{bit, has};
-ghost use Rattle.rows.specs.Rows.{noRows, rowAt, withRow, bytesFrom, putRow, rowIn};
+ghost use Rattle.rows.specs.Rows.{noRows, rowAt, rowsOf, withRow, bytesFrom, putRow, rowIn, laid};
 use places::Place;
 use places::PlaceSet;
 
-// A set for each of the places 0 to 127: an array of numbers, so that it can be lent without a copy.
-pub type Rows = [u64; 256];
-
-// The table of empty rows.
-pub fn none() -> Rows
-    ensures { λ r. ⌜ r ≡ noRows ⌝ }
-{
-    [0; 256]
-}
-
-// The row of a place in a table that is lent as a slice, so that its length is known.
-fn row_of(words: &[u64], p: usize) -> PlaceSet
-    requires { ⌜ length (now words) ≡ 256 ⌝ }
-    ensures { λ r. ⌜ r ≡ rowAt (now (words .entry)) p ⌝ }
-{
-    if 128 <= p {
-        return PlaceSet { low: 0, high: 0 };
-    }
-    let at = p * 2;
-    PlaceSet {
-        low: words[at],
-        high: words[at + 1],
-    }
-}
-
-// The row of a place: empty from 128 on.
-pub fn get(rows: &Rows, place: Place) -> PlaceSet
-    ensures { λ r. ⌜ r ≡ rowAt (now (rows .entry)) (place .0) ⌝ }
-{
-    row_of(rows, place.0)
-}
-
-// Sets the row of a place in a table that is lent as a slice.
-fn set_row(words: &mut [u64], p: usize, s: PlaceSet)
-    requires { ⌜ length (now words) ≡ 256 ⌝ }
-    ensures { λ r. ⌜ now (words .exit) ≡ withRow (now (words .entry)) p s ⌝ }
-{
-    if 128 <= p {
-        return;
-    }
-    let at = p * 2;
-    words[at] = s.low;
-    words[at + 1] = s.high;
-}
-
-// The row of a place is set: from 128 on nothing changes.
-pub fn set(rows: &mut Rows, place: Place, s: PlaceSet)
-    ensures { λ r. ⌜ now (rows .exit) ≡ withRow (now (rows .entry)) (place .0) s ⌝ }
-{
-    set_row(rows, place.0, s);
-}
+// A row for each of the places 0 to 127, laid out as in a history that a caller lends.
+pub type Rows = [u8; 2048];
 
 // Lays a word's 8 bytes into the front of a buffer, lowest first.
 fn put_word(out: &mut [u8], x: u64)
@@ -124,4 +77,80 @@ pub fn read(bytes: &[u8], at: usize) -> PlaceSet
         low: read_word(&bytes[at..]),
         high: read_word(&bytes[half..]),
     }
+}
+
+// The table of empty rows.
+pub fn none() -> Rows
+    ensures { λ r. ⌜ r ≡ noRows ⌝ }
+{
+    [0; 2048]
+}
+
+// The row of a place in a table that is lent as a slice, so that its length is known.
+fn row_of(table: &[u8], p: usize) -> PlaceSet
+    requires { ⌜ length (now table) ≡ 2048 ⌝ }
+    ensures { λ r. ⌜ r ≡ rowAt (now (table .entry)) p ⌝ }
+{
+    if 128 <= p {
+        return PlaceSet { low: 0, high: 0 };
+    }
+    read(table, 16 * p)
+}
+
+// The row of a place: empty from 128 on.
+pub fn get(rows: &Rows, place: Place) -> PlaceSet
+    ensures { λ r. ⌜ r ≡ rowAt (now (rows .entry)) (place .0) ⌝ }
+{
+    row_of(rows, place.0)
+}
+
+// Sets the row of a place in a table that is lent as a slice.
+fn set_row(table: &mut [u8], p: usize, s: PlaceSet)
+    requires { ⌜ length (now table) ≡ 2048 ⌝ }
+    ensures { λ r. ⌜ now (table .exit) ≡ withRow (now (table .entry)) p s ⌝ }
+{
+    if 128 <= p {
+        return;
+    }
+    put(table, 16 * p, s);
+}
+
+// The row of a place is set: from 128 on nothing changes.
+pub fn set(rows: &mut Rows, place: Place, s: PlaceSet)
+    ensures { λ r. ⌜ now (rows .exit) ≡ withRow (now (rows .entry)) (place .0) s ⌝ }
+{
+    set_row(rows, place.0, s);
+}
+
+// Copies the first n bytes.
+fn copy(out: &mut [u8], bytes: &[u8], n: usize)
+    requires { ⌜ (n ≤ length (now out)) × (n ≤ length (now bytes)) ⌝ }
+    ensures { λ r. ⌜ now (out .exit) ≡ take n (now (bytes .entry)) ++ drop n (now (out .entry)) ⌝ }
+{
+    let mut i = 0;
+    while i < n {
+        out[i] = bytes[i];
+        i += 1;
+    }
+}
+
+// Lays the first n rows of a table that is lent as a slice into the front of a buffer.
+fn lay_rows(out: &mut [u8], table: &[u8], n: usize)
+    requires { ⌜ length (now table) ≡ 2048 ⌝ }
+    ensures { λ r. ⌜ now (out .exit) ≡ cond (leb n 128 && leb (16 * n) (length (now (out .entry)))) (laid n (rowsOf (now (table .entry))) (now (out .entry))) (now (out .entry)) ⌝ }
+{
+    if 128 < n {
+        return;
+    }
+    if out.len() < 16 * n {
+        return;
+    }
+    copy(out, table, 16 * n);
+}
+
+// Lays a table's first n rows into the front of a buffer: where there are not so many, or they do not fit, nothing changes.
+pub fn lay(out: &mut [u8], rows: &Rows, n: usize)
+    ensures { λ r. ⌜ now (out .exit) ≡ cond (leb n 128 && leb (16 * n) (length (now (out .entry)))) (laid n (rowsOf (now (rows .entry))) (now (out .entry))) (now (out .entry)) ⌝ }
+{
+    lay_rows(out, rows, n);
 }

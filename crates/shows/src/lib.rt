@@ -6,10 +6,9 @@ ghost use lib.ListN.{length};
 ghost use Rattle.places.specs.Sets as sets;
 ghost use Rattle.places.specs.PlaceSets.{has, kept};
 ghost use Rattle.histories.specs.Rule as rule;
-ghost use Rattle.rows.specs.Rows.{laid};
+ghost use Rattle.rows.specs.Rows.{rowsOf};
 ghost use Rattle.answers.specs.Views.{size, acceptedIn};
-ghost use Rattle.shows.specs.Shows.{replaced, shownIn};
-use answers::Answer;
+ghost use Rattle.shows.specs.Shows.{laidIn, shownIn};
 use histories::Kind;
 use places::Found;
 use places::Place;
@@ -21,56 +20,6 @@ pub enum Showing {
     Shown,
     Decided,
     Refused(u8),
-}
-
-// A row of a shown history: `row` at the place `other`, the recorded row at every other place.
-fn shown_row(
-    rows: &Rows,
-    returned: PlaceSet,
-    count: usize,
-    p: usize,
-    other: Place,
-    row: PlaceSet,
-) -> PlaceSet
-    ensures { λ s. ⌜ has s ≡ replaced (acceptedIn count (has returned) (now (rows .entry))) (other .0) (has row) p ⌝ }
-{
-    if p == other.0 {
-        return row;
-    }
-    answers::recorded(rows, returned, count, Place(p))
-}
-
-// Lays the rows of the first n places into the front of a buffer: `row` for `other`, the recorded ones for the others.
-fn lay_rows(
-    rows: &Rows,
-    returned: PlaceSet,
-    count: usize,
-    n: usize,
-    other: Place,
-    row: PlaceSet,
-    out: &mut [u8],
-)
-    requires { ⌜ (n ≤ 128) × (16 * n ≤ length (now out)) ⌝ }
-    ensures { λ s. ⌜ now (out .exit) ≡ laid n (replaced (acceptedIn count (has returned) (now (rows .entry))) (other .0) (has row)) (now (out .entry)) ⌝ }
-{
-    let mut p = 0;
-    while p < n {
-        let next = shown_row(rows, returned, count, p, other, row);
-        rows::put(out, 16 * p, next);
-        p += 1;
-    }
-}
-
-// The lowest blocker of a place; the roster's length where there is none.
-fn lowest_blocker(kind: Kind, rows: &Rows, returned: PlaceSet, count: usize, place: Place) -> Place
-    ensures { λ s. ⌜ s .0 ≡ sets.lowest (size count) (rule.blockers kind (size count) (acceptedIn count (has returned) (now (rows .entry))) (place .0)) ⌝ }
-{
-    let blockers = answers::blockers(kind, rows, returned, count, place);
-    let found = places::lowest(blockers);
-    match found {
-        Found::At(b) => b,
-        Found::Nothing => Place(answers::size(count)),
-    }
 }
 
 // What one that heard a place has in its row: the place, and in the full kind the place's recorded row.
@@ -86,20 +35,46 @@ fn heard_row(kind: Kind, rows: &Rows, returned: PlaceSet, count: usize, place: P
     }
 }
 
-// Shows a place that is open: 13, or both histories laid down. In the first the place's own row is the recorded one, too.
+// Lays the first n rows into the front of both buffers. The copy is known to overlap neither buffer, so that each is one copy of memory.
+fn lay_copied(rows: &Rows, n: usize, first: &mut [u8], second: &mut [u8])
+    ensures { λ s. ⌜ now (first .exit) ≡ laidIn n (rowsOf (now (rows .entry))) (now (first .entry)) ⌝ }
+    ensures { λ s. ⌜ now (second .exit) ≡ laidIn n (rowsOf (now (rows .entry))) (now (second .entry)) ⌝ }
+{
+    let table = *rows;
+    rows::lay(first, &table, n);
+    rows::lay(second, &table, n);
+}
+
+// The same; few rows are laid without a copy of them all.
+fn lay_both(rows: &Rows, n: usize, first: &mut [u8], second: &mut [u8])
+    ensures { λ s. ⌜ now (first .exit) ≡ laidIn n (rowsOf (now (rows .entry))) (now (first .entry)) ⌝ }
+    ensures { λ s. ⌜ now (second .exit) ≡ laidIn n (rowsOf (now (rows .entry))) (now (second .entry)) ⌝ }
+{
+    if 32 < n {
+        lay_copied(rows, n, first, second);
+        return;
+    }
+    rows::lay(first, rows, n);
+    rows::lay(second, rows, n);
+}
+
+// Shows a place that is open: 13, or both histories laid down, the second with another row for the lowest blocker.
 fn show_open(
     kind: Kind,
     rows: &Rows,
     returned: PlaceSet,
+    mourned: PlaceSet,
     count: usize,
     place: Place,
+    blocker: Place,
     first: &mut [u8],
     second: &mut [u8],
 ) -> Showing
-    requires { ⌜ (place .0 < size count) × (rule.answer kind (size count) (acceptedIn count (has returned) (now rows)) (place .0) ≡ rule.is-open) ⌝ }
-    ensures { λ s. ⌜ s ≡ shownIn kind (size count) (acceptedIn count (has returned) (now (rows .entry))) (place .0) (now (first .entry)) (now (second .entry)) .answer ⌝ }
-    ensures { λ s. ⌜ now (first .exit) ≡ shownIn kind (size count) (acceptedIn count (has returned) (now (rows .entry))) (place .0) (now (first .entry)) (now (second .entry)) .first ⌝ }
-    ensures { λ s. ⌜ now (second .exit) ≡ shownIn kind (size count) (acceptedIn count (has returned) (now (rows .entry))) (place .0) (now (first .entry)) (now (second .entry)) .second ⌝ }
+    requires { ⌜ (place .0 < size count) × (rule.answerBy kind (size count) (acceptedIn count (has returned) (now rows)) (has mourned) (place .0) ≡ rule.is-open) ⌝ }
+    requires { ⌜ blocker .0 ≡ sets.lowest (size count) (rule.blockersBy kind (size count) (acceptedIn count (has returned) (now rows)) (has mourned) (place .0)) ⌝ }
+    ensures { λ s. ⌜ s ≡ shownIn kind (size count) (acceptedIn count (has returned) (now (rows .entry))) (has mourned) (rowsOf (now (rows .entry))) (place .0) (now (first .entry)) (now (second .entry)) .answer ⌝ }
+    ensures { λ s. ⌜ now (first .exit) ≡ shownIn kind (size count) (acceptedIn count (has returned) (now (rows .entry))) (has mourned) (rowsOf (now (rows .entry))) (place .0) (now (first .entry)) (now (second .entry)) .first ⌝ }
+    ensures { λ s. ⌜ now (second .exit) ≡ shownIn kind (size count) (acceptedIn count (has returned) (now (rows .entry))) (has mourned) (rowsOf (now (rows .entry))) (place .0) (now (first .entry)) (now (second .entry)) .second ⌝ }
 {
     let n = answers::size(count);
     if first.len() < 16 * n {
@@ -108,11 +83,9 @@ fn show_open(
     if second.len() < 16 * n {
         return Showing::Refused(13);
     }
-    let own = answers::recorded(rows, returned, count, place);
-    let blocker = lowest_blocker(kind, rows, returned, count, place);
     let heard = heard_row(kind, rows, returned, count, place);
-    lay_rows(rows, returned, count, n, place, own, first);
-    lay_rows(rows, returned, count, n, blocker, heard, second);
+    lay_both(rows, n, first, second);
+    rows::put(second, 16 * blocker.0, heard);
     Showing::Shown
 }
 
@@ -121,22 +94,36 @@ pub fn show(
     kind: Kind,
     rows: &Rows,
     returned: PlaceSet,
+    mourned: PlaceSet,
     count: usize,
     place: Place,
     first: &mut [u8],
     second: &mut [u8],
 ) -> Showing
-    ensures { λ s. ⌜ s ≡ shownIn kind (size count) (acceptedIn count (has returned) (now (rows .entry))) (place .0) (now (first .entry)) (now (second .entry)) .answer ⌝ }
-    ensures { λ s. ⌜ now (first .exit) ≡ shownIn kind (size count) (acceptedIn count (has returned) (now (rows .entry))) (place .0) (now (first .entry)) (now (second .entry)) .first ⌝ }
-    ensures { λ s. ⌜ now (second .exit) ≡ shownIn kind (size count) (acceptedIn count (has returned) (now (rows .entry))) (place .0) (now (first .entry)) (now (second .entry)) .second ⌝ }
+    ensures { λ s. ⌜ s ≡ shownIn kind (size count) (acceptedIn count (has returned) (now (rows .entry))) (has mourned) (rowsOf (now (rows .entry))) (place .0) (now (first .entry)) (now (second .entry)) .answer ⌝ }
+    ensures { λ s. ⌜ now (first .exit) ≡ shownIn kind (size count) (acceptedIn count (has returned) (now (rows .entry))) (has mourned) (rowsOf (now (rows .entry))) (place .0) (now (first .entry)) (now (second .entry)) .first ⌝ }
+    ensures { λ s. ⌜ now (second .exit) ≡ shownIn kind (size count) (acceptedIn count (has returned) (now (rows .entry))) (has mourned) (rowsOf (now (rows .entry))) (place .0) (now (first .entry)) (now (second .entry)) .second ⌝ }
 {
     if answers::size(count) <= place.0 {
         return Showing::Refused(12);
     }
-    let answer = answers::answer_for(kind, rows, returned, count, place);
-    match answer {
-        Answer::Last => Showing::Decided,
-        Answer::NotLast => Showing::Decided,
-        Answer::Open => show_open(kind, rows, returned, count, place, first, second),
+    if places::contains(mourned, place) {
+        return Showing::Decided;
     }
+    let blocking = answers::blockers(kind, rows, returned, mourned, count, place);
+    let found = places::lowest(blocking);
+    let Found::At(blocker) = found else {
+        return Showing::Decided;
+    };
+    show_open(
+        kind,
+        rows,
+        returned,
+        mourned,
+        count,
+        place,
+        blocker,
+        first,
+        second,
+    )
 }

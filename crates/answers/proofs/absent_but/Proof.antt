@@ -13,13 +13,8 @@ without-requires c κs = search needs
 difference-requires : tie.Need-difference-requires
 difference-requires c κs = search needs
 
-difference-requires-2 : tie.Need-difference-requires-2
-difference-requires-2 c κs = search needs
-
 returns : tie.Need-returns
-returns c = absent-is _ _ _ _ _ _ _ _ (c .before .before .before .roster .ensures) (c .before .before .without .ensures) (c .before .difference .ensures) (c .difference2 .ensures)
+returns c = absent-is _ _ _ _ _ _ (c .before .before .roster .ensures) (c .before .without .ensures) (c .difference .ensures)
 
 pub absent-but-spec : {M : Type 1} → statement M
-absent-but-spec =
-    tie.close
-    (tie.spec roster-requires without-requires difference-requires difference-requires-2 returns)
+absent-but-spec = tie.close (tie.spec roster-requires without-requires difference-requires returns)

@@ -23,12 +23,12 @@ accepts-short-requires c κs = search needs
 returns : tie.Need-returns
 returns c =
     let s = c .before .before .before .args in
-    c .accepts-full .ensures ∙ ap (λ (k : Kind). rule.accepts k (size (s .count)) (acceptedIn (s .count) (has (s .returned)) (s .rows .now)) (s .place .0) (has (s .mourned))) (sym (c .before .enum-told .given .1))
+    c .accepts-full .ensures ∙ ap (λ (k : Kind). rule.accepts k (size (s .count)) (acceptedIn (s .count) (has (s .returned)) (s .rows .now)) (s .place .0) (has (s .row))) (sym (c .before .enum-told .given .1))
 
 returns-2 : tie.Need-returns-2
 returns-2 c =
     let s = c .before .before .before .args in
-    c .accepts-short .ensures ∙ ap (λ (k : Kind). rule.accepts k (size (s .count)) (acceptedIn (s .count) (has (s .returned)) (s .rows .now)) (s .place .0) (has (s .mourned))) (sym (c .before .enum-told2 .given .1))
+    c .accepts-short .ensures ∙ ap (λ (k : Kind). rule.accepts k (size (s .count)) (acceptedIn (s .count) (has (s .returned)) (s .rows .now)) (s .place .0) (has (s .row))) (sym (c .before .enum-told2 .given .1))
 
 pub accepts-spec : {M : Type 1} → statement M
 accepts-spec =

@@ -21,7 +21,7 @@ contains-requires : tie.Need-contains-requires Inv-loop μ-loop
 contains-requires c κs = search needs
 
 returns : tie.Need-returns Inv-loop μ-loop
-returns c = accepts-self _ _ _ (has (c .before .before .args .mourned)) (sym (c .before .contains .ensures) ∙ c .if1 .taken)
+returns c = accepts-self _ _ _ (has (c .before .before .args .row)) (sym (c .before .contains .ensures) ∙ c .if1 .taken)
 
 roster-requires : tie.Need-roster-requires Inv-loop μ-loop
 roster-requires c κs = search needs

@@ -10,22 +10,16 @@ use Rattle.answers.proofs.settled.Statement.{statement}
 use Rattle.answers.proofs.settled.Tie as tie
 
 abbrev Inv-loop : tie.InvT-loop
-Inv-loop kind rows returned count named left₀ left = Passed kind (size count) (acceptedIn count (has returned) rows) left
+Inv-loop kind rows returned mourned count unasked₀ unasked = Passed kind (size count) (acceptedIn count (has returned) rows) (has mourned) unasked
 
 abbrev μ-loop : tie.MeasureT-loop
-μ-loop kind rows returned count named left₀ left = Rattle.places.specs.Sets.count 128 (has left)
+μ-loop kind rows returned mourned count unasked₀ unasked = Rattle.places.specs.Sets.count 128 (has unasked)
 
-mourned-requires : tie.Need-mourned-requires Inv-loop μ-loop
-mourned-requires c κs = search needs
-
-roster-requires : tie.Need-roster-requires Inv-loop μ-loop
-roster-requires c κs = search needs
-
-difference-requires : tie.Need-difference-requires Inv-loop μ-loop
-difference-requires c κs = search needs
+unmourned-requires : tie.Need-unmourned-requires Inv-loop μ-loop
+unmourned-requires c κs = search needs
 
 loop-holds : tie.Need-loop-holds Inv-loop μ-loop
-loop-holds c = passed-none _ _ _ _ _ _ (c .before .roster .ensures) (c .before .before .mourned .ensures) (c .difference .ensures)
+loop-holds c = passed-none _ _ _ _ _ (c .unmourned .ensures)
 
 lowest-requires : tie.Need-lowest-requires Inv-loop μ-loop
 lowest-requires c κs = search needs
@@ -37,26 +31,32 @@ enum-told : tie.Need-enum-told Inv-loop μ-loop
 enum-told c = search needs
 
 returns : tie.Need-returns Inv-loop μ-loop
-returns c = settled-all _ _ _ _ (c .before .before .before .loop .inv) (lowest-nothing 128 _ (sym (c .before .before .lowest .ensures) ∙ c .enum-told .given .1))
+returns c = settled-all _ _ _ _ _ (c .before .before .before .loop .inv) (lowest-nothing 128 _ (sym (c .before .before .lowest .ensures) ∙ c .enum-told .given .1))
 
 blocked-requires : tie.Need-blocked-requires Inv-loop μ-loop
 blocked-requires c κs = search needs
 
 returns-2 : tie.Need-returns-2 Inv-loop μ-loop
 returns-2 c =
-    let low = lowest-found 128 _ _ (sym (c .before .before .before .before .before .lowest .ensures) ∙ c .before .before .before .found .given .1) in
-    settled-open _ _ _ _ (c .before .before .before .before .before .before .loop .inv) _ (low .0) (sym (c .before .blocked .ensures) ∙ c .if1 .taken)
+    let b = c .before in
+    let low = lowest-found 128 _ _ (sym (b .before .before .before .before .lowest .ensures) ∙ b .before .before .found .given .1) in
+    settled-open _ _ _ _ _ (b .before .before .before .before .before .loop .inv) _ (low .0)
+    (sym (b .blocked .ensures) ∙ c .if1 .taken)
 
 without-requires : tie.Need-without-requires Inv-loop μ-loop
 without-requires c κs = search needs
 
 loop-less : tie.Need-loop-less Inv-loop μ-loop
 loop-less c =
-    let low = lowest-found 128 _ _ (sym (c .before .before .before .before .before .before .lowest .ensures) ∙ c .before .before .before .before .found .given .1) in
+    let b = c .before .before in
+    let low = lowest-found 128 _ _ (sym (b .before .before .before .before .lowest .ensures) ∙ b .before .before .found .given .1) in
     omega (arith, without-count _ _ _ (low .0) (c .without .ensures))
 
 loop-again : tie.Need-loop-again Inv-loop μ-loop
-loop-again c = passed-next _ _ _ _ _ (c .before .before .before .before .before .before .before .loop .inv) _ (sym (c .before .before .blocked .ensures) ∙ c .before .if1 .left) (c .without .ensures)
+loop-again c =
+    let b = c .before .before in
+    passed-next _ _ _ _ _ _ (b .before .before .before .before .before .loop .inv) _
+    (sym (b .blocked .ensures) ∙ c .before .if1 .left) (c .without .ensures)
 
 pub settled-spec : {M : Type 1} → statement M
 settled-spec =
@@ -64,9 +64,7 @@ settled-spec =
     (tie.spec
     Inv-loop
     μ-loop
-    mourned-requires
-    roster-requires
-    difference-requires
+    unmourned-requires
     loop-holds
     lowest-requires
     enum-known-found

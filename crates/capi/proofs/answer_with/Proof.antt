@@ -19,6 +19,12 @@ with-requires c κs = search needs
 write-set-requires : tie.Need-write-set-requires
 write-set-requires c κs = search needs
 
+union-requires : tie.Need-union-requires
+union-requires c κs = search needs
+
+put-set-requires : tie.Need-put-set-requires
+put-set-requires c κs = search needs
+
 set-requires : tie.Need-set-requires
 set-requires c κs = search needs
 
@@ -30,22 +36,28 @@ enum-known-reply c = search needs
 
 returns : tie.Need-returns
 returns c =
-    let s = c .before .before in
+    let k = c .before .before in
+    let u = k .before in
+    let s = u .before .before in
     let w = s .before in
     let t = w .before .before in
-    let h = t .before .before in
-    let g = h .before .before .before .before .good in
-    leaves-taken _ _ _ _ _ _ _ (t .enum-told .given .1) (keep-is _ _ _ _ _ _ _ _ (h .before .read-head .ensures .1 .1) (omega (arith, w .with .ok)) (w .with .ensures) (omega (arith, g)) (s .write-set .ensures) (c .set .ensures))
+    let h = t .before .before .before in
+    let start = h .before .before .before in
+    leaves-taken _ _ _ _ _ _ _ _ _ (t .enum-told .given .1)
+    (keep-is _ _ _ _ _ _ _ _ _ _ _ _ (h .read-head .ensures .1 .1) (start .pre .1) (omega (arith, w .with .ok)) (w .with .ensures) (omega (arith, u .union .ok)) (u .union .ensures)
+    (omega (arith, start .good)) (s .write-set .ensures) (k .put-set .ensures) (c .set .ensures))
 
 returns-2 : tie.Need-returns-2
 returns-2 c =
-    let l : length (c .before .before .before .before .before .before .args .head .now) ≡ 4 = search needs in
-    leaves-repeated _ _ _ _ _ (c .enum-told2 .given .1) l
+    let start = c .before .before .before .before .before .before in
+    let l : length (start .args .head .now) ≡ 4 = search needs in
+    leaves-repeated _ _ _ _ _ _ l (start .pre .0) (c .enum-told2 .given .1)
 
 returns-3 : tie.Need-returns-3
 returns-3 c =
-    let l : length (c .before .before .before .before .before .before .before .args .head .now) ≡ 4 = search needs in
-    leaves-refused _ _ _ _ _ _ (c .before .reply .given .1) l
+    let start = c .before .before .before .before .before .before .before in
+    let l : length (start .args .head .now) ≡ 4 = search needs in
+    leaves-refused _ _ _ _ _ _ l (start .pre .0) _ (c .before .reply .given .1)
 
 pub answer-with-spec : {M : Type 1} → statement M
 answer-with-spec =
@@ -54,7 +66,7 @@ answer-with-spec =
     read-head-requires
     enum-told
     with-requires
-    write-set-requires
+    write-set-requires union-requires put-set-requires
     set-requires
     enum-told-2
     enum-known-reply

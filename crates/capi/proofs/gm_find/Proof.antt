@@ -1,5 +1,5 @@
 -- `capi::gm_find` meets its contract. Assumes nothing.
-use mathlib.Core.Path.{_∙_}
+use mathlib.Core.Path.{refl, _∙_}
 use borrow.Author.Needs.{needs}
 use Rattle.capi.proofs.Calls.{found-is}
 use Rattle.capi.proofs.gm_find.Statement.{statement}
@@ -18,9 +18,9 @@ found-code-requires : tie.Need-found-code-requires
 found-code-requires c κs = search needs
 
 returns : tie.Need-returns
-returns c = λ rows.
+returns c = λ mourned rows.
     let s = c .before .before .before in
-    c .found-code .ensures ∙ found-is _ _ (s .before .read-head .ensures) _ _ _ _ _ (s .size .ensures .0) (c .before .find-among .ensures)
+    c .found-code .ensures ∙ found-is _ mourned _ _ (s .before .read-head .ensures) refl _ _ _ _ _ (s .size .ensures .0) (c .before .find-among .ensures)
 
 pub gm-find-spec : {M : Type 1} → statement M
 gm-find-spec =

@@ -1,6 +1,7 @@
 -- `capi::gm_write` meets its contract. Assumes nothing.
+use mathlib.Core.Path.{ap, _∙_}
 use borrow.Author.Needs.{needs}
-use Rattle.capi.proofs.Writes.{ends}
+use Rattle.capi.specs.Boundary.{endOf}
 use Rattle.capi.proofs.gm_write.Statement.{statement}
 use Rattle.capi.proofs.gm_write.Tie as tie
 
@@ -16,7 +17,7 @@ same-length c = search needs
 returns : tie.Need-returns
 returns c =
     let w = c .before .before .before in
-    ends _ _ _ _ (c .end-of .ensures) (w .write-back .ensures)
+    (λ mourned. c .end-of .ensures ∙ ap endOf (w .write-back .ensures .0 mourned), w .write-back .ensures .1)
 
 pub gm-write-spec : {M : Type 1} → statement M
 gm-write-spec = tie.close (tie.spec write-back-requires end-of-requires same-length returns)

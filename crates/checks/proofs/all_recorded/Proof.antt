@@ -1,43 +1,73 @@
--- `checks::all_recorded` meets its contract: the rows passed are the recorded ones. Assumes nothing.
-use mathlib.Core.Path.{_≡_, sym, _∙_}
-use mathlib.Core.Bool.{true, not, _||_}
-use Prim.Native.Nat.{_≤_, _-_}
+-- `checks::all_recorded` meets its contract: what is left decides. Assumes nothing.
+use mathlib.Core.Path.{refl, sym, _∙_}
 use native.Mathlib.Omega.{arith}
 use borrow.Author.Tests.{not-true, not-false}
 use borrow.Author.Needs.{needs}
-use Rattle.places.specs.Sets.{all, same}
+use Rattle.places.specs.Sets.{same, count}
 use Rattle.places.specs.PlaceSets.{has}
-use Rattle.rows.specs.Rows.{rowsOf}
-use Rattle.checks.proofs.Laws.{all-start, all-next, all-end, all-not}
+use Rattle.places.proofs.Laws.{lowest-found, lowest-nothing, without-count}
+use Rattle.rows.specs.Rows.{rowsOf, historyIn}
+use Rattle.checks.proofs.Laws.{Left, cut-on, left-start, left-next, left-end, left-not}
 use Rattle.checks.proofs.all_recorded.Statement.{statement}
 use Rattle.checks.proofs.all_recorded.Tie as tie
 
 abbrev Inv-loop : tie.InvT-loop
-Inv-loop table rows returned n p₀ p = (p ≤ n) × (all p (λ p. not (has returned p) || same n (rowsOf table p) (rowsOf rows p)) ≡ true)
+Inv-loop history rows n left₀ left = Left n (λ p. same n (historyIn n history p) (rowsOf rows p)) (has left₀) left
 
 abbrev μ-loop : tie.MeasureT-loop
-μ-loop table rows returned n p₀ p = n - p
+μ-loop history rows n left₀ left = count 128 (has left)
+
+below-requires : tie.Need-below-requires Inv-loop μ-loop
+below-requires c κs = search needs
+
+intersection-requires : tie.Need-intersection-requires Inv-loop μ-loop
+intersection-requires c κs = search needs
 
 loop-holds : tie.Need-loop-holds Inv-loop μ-loop
-loop-holds c = (omega arith, all-start _)
+loop-holds c = record { on = cut-on _ _ _ _ (omega arith) (c .before .below .ensures) (c .intersection .ensures); decides = refl }
 
-row-recorded-requires : tie.Need-row-recorded-requires Inv-loop μ-loop
-row-recorded-requires c κs = search needs
+lowest-requires : tie.Need-lowest-requires Inv-loop μ-loop
+lowest-requires c κs = search needs
+
+enum-known-found : tie.Need-enum-known-found Inv-loop μ-loop
+enum-known-found c = search needs
+
+enum-told : tie.Need-enum-told Inv-loop μ-loop
+enum-told c = search needs
 
 returns : tie.Need-returns Inv-loop μ-loop
-returns c = sym (all-not _ _ _ (c .before .before .loop-test .taken) (sym (c .before .row-recorded .ensures) ∙ not-true _ (c .if1 .taken)))
+returns c =
+    let at = c .before .before .before in
+    let start = left-start _ _ _ _ _ _ (omega arith) refl (at .before .before .below .ensures) (at .before .intersection .ensures) in
+    left-end _ _ _ _ (at .loop .inv) (omega arith) (lowest-nothing 128 _ (sym (c .before .before .lowest .ensures) ∙ c .enum-told .given .1)) ∙ start .decides
 
-add-p : tie.Need-add-p Inv-loop μ-loop
-add-p c = search needs
-
-loop-less : tie.Need-loop-less Inv-loop μ-loop
-loop-less c = search needs
-
-loop-again : tie.Need-loop-again Inv-loop μ-loop
-loop-again c = (omega arith, all-next _ _ (sym (c .before .row-recorded .ensures) ∙ not-false _ (c .if1 .left)) (c .before .before .before .loop .inv .1))
+row-recorded-requires : tie.Need-row-recorded-requires Inv-loop μ-loop
+row-recorded-requires c κs =
+    let met = c .before in
+    let low = lowest-found 128 _ _ (sym (met .before .before .lowest .ensures) ∙ met .found .given .1) in
+    (omega arith, met .before .before .before .loop .inv .on _ (low .0))
 
 returns-2 : tie.Need-returns-2 Inv-loop μ-loop
-returns-2 c = all-end _ _ _ (c .before .loop .inv .0) (c .loop-test .left) (c .before .loop .inv .1)
+returns-2 c =
+    let met = c .before .before .before in
+    let at = met .before .before .before in
+    let start = left-start _ _ _ _ _ _ (omega arith) refl (at .before .before .below .ensures) (at .before .intersection .ensures) in
+    let low = lowest-found 128 _ _ (sym (met .before .before .lowest .ensures) ∙ met .found .given .1) in
+    left-not _ _ _ _ (at .loop .inv) _ (low .0) (sym (c .before .row-recorded .ensures) ∙ not-true _ (c .if1 .taken)) ∙ start .decides
+
+without-requires : tie.Need-without-requires Inv-loop μ-loop
+without-requires c κs = search needs
+
+loop-less : tie.Need-loop-less Inv-loop μ-loop
+loop-less c =
+    let met = c .before .before .before .before in
+    let low = lowest-found 128 _ _ (sym (met .before .before .lowest .ensures) ∙ met .found .given .1) in
+    omega (arith, without-count _ _ _ (low .0) (c .without .ensures))
+
+loop-again : tie.Need-loop-again Inv-loop μ-loop
+loop-again c =
+    let passed = sym (c .before .before .row-recorded .ensures) ∙ not-false _ (c .before .if1 .left) in
+    left-next _ _ _ _ (c .before .before .before .before .before .before .before .loop .inv) _ _ passed (c .without .ensures)
 
 pub all-recorded-spec : {M : Type 1} → statement M
 all-recorded-spec =
@@ -45,10 +75,15 @@ all-recorded-spec =
     (tie.spec
     Inv-loop
     μ-loop
+    below-requires
+    intersection-requires
     loop-holds
-    row-recorded-requires
+    lowest-requires
+    enum-known-found
+    enum-told
     returns
-    add-p
+    row-recorded-requires
+    returns-2
+    without-requires
     loop-less
-    loop-again
-    returns-2)
+    loop-again)

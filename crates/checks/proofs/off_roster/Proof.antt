@@ -27,7 +27,7 @@ row-off-roster-requires : tie.Need-row-off-roster-requires Inv-loop μ-loop
 row-off-roster-requires c κs = (c .before .before .size .ensures .1, search needs)
 
 returns : tie.Need-returns Inv-loop μ-loop
-returns c = off-found _ _ _ _ (c .before .before .before .before .size .ensures .0) (c .before .before .loop-test .taken) (sym (c .before .row-off-roster .ensures) ∙ c .if1 .taken)
+returns c = off-found _ _ _ _ (c .before .before .before .before .size .ensures .0) (omega arith) (sym (c .before .row-off-roster .ensures) ∙ c .if1 .taken)
 
 add-p : tie.Need-add-p Inv-loop μ-loop
 add-p c = search needs

@@ -1,32 +1,37 @@
--- `checks::row_closed` meets its contract: what is left decides. Assumes nothing.
-use mathlib.Core.Path.{sym, _∙_}
+-- `checks::row_closed` meets its contract: members that are not left are covered. Assumes nothing.
+use mathlib.Core.Path.{refl, sym, _∙_}
+use mathlib.Core.Bool.{true≢false, false≢true}
 use native.Mathlib.Omega.{arith}
 use borrow.Author.Tests.{not-true, not-false}
 use borrow.Author.Needs.{needs}
 use Rattle.places.specs.Sets.{count}
 use Rattle.places.specs.PlaceSets.{has}
-use Rattle.places.proofs.Laws.{lowest-found, lowest-nothing, without-count}
-use Rattle.checks.proofs.Laws.{Left, held-start, held-is, held-next, held-end, held-not}
+use Rattle.places.proofs.Laws.{lowest-found, lowest-nothing}
+use Rattle.rows.specs.Rows.{historyIn}
+use Rattle.checks.proofs.Laws.{subset-is}
+use Rattle.checks.proofs.Closed.{Covering, covering-starts, covering-fails, covering-less, covering-goes, covering-ends}
 use Rattle.checks.proofs.row_closed.Statement.{statement}
 use Rattle.checks.proofs.row_closed.Tie as tie
 
 abbrev Inv-loop : tie.InvT-loop
-Inv-loop table n p roster row left₀ left = Left n table p left
+Inv-loop history n p roster row left₀ left = Covering n (historyIn n history) p left
 
 abbrev μ-loop : tie.MeasureT-loop
-μ-loop table n p roster row left₀ left = count 128 (has left)
+μ-loop history n p roster row left₀ left = count 128 (has left)
 
 below-requires : tie.Need-below-requires Inv-loop μ-loop
 below-requires c κs = search needs
 
-get-requires : tie.Need-get-requires Inv-loop μ-loop
-get-requires c κs = search needs
+lent-row-requires : tie.Need-lent-row-requires Inv-loop μ-loop
+lent-row-requires c κs = omega arith
 
 intersection-requires : tie.Need-intersection-requires Inv-loop μ-loop
 intersection-requires c κs = search needs
 
 loop-holds : tie.Need-loop-holds Inv-loop μ-loop
-loop-holds c = held-start _ _ _ _ _ _ (omega arith) (c .before .get .ensures) (c .before .before .below .ensures) (c .intersection .ensures)
+loop-holds c =
+    let n = c .before .before .before .before .args .n in
+    covering-starts _ _ _ _ _ _ (omega arith) (c .before .lent-row .ensures n (omega arith)) (c .before .before .below .ensures) (c .intersection .ensures)
 
 lowest-requires : tie.Need-lowest-requires Inv-loop μ-loop
 lowest-requires c κs = search needs
@@ -38,11 +43,13 @@ enum-told : tie.Need-enum-told Inv-loop μ-loop
 enum-told c = search needs
 
 returns : tie.Need-returns Inv-loop μ-loop
-returns c =
-    held-end _ _ _ _ (omega arith) (c .before .before .before .loop .inv) (lowest-nothing 128 _ (sym (c .before .before .lowest .ensures) ∙ c .enum-told .given .1))
+returns c = (
+  λ e. covering-ends _ _ _ _ (omega arith) (c .before .before .before .loop .inv) (lowest-nothing 128 _ (sym (c .before .before .lowest .ensures) ∙ c .enum-told .given .1)),
+  λ e. absurd (true≢false e),
+)
 
-get-requires-2 : tie.Need-get-requires-2 Inv-loop μ-loop
-get-requires-2 c κs = search needs
+lent-row-requires-2 : tie.Need-lent-row-requires-2 Inv-loop μ-loop
+lent-row-requires-2 c κs = lowest-found 128 _ _ (sym (c .before .before .before .lowest .ensures) ∙ c .before .found .given .1) .1
 
 intersection-requires-2 : tie.Need-intersection-requires-2 Inv-loop μ-loop
 intersection-requires-2 c κs = search needs
@@ -55,27 +62,38 @@ returns-2 c =
     let test = c .before in
     let met = test .before .before .before .before in
     let at = met .before .before .before in
-    let low = lowest-found 128 _ _ (sym (met .before .before .lowest .ensures) ∙ met .found .given .1) in
-    let held = held-is _ _ _ _ _ _ _ _ _ (omega arith) (at .before .before .get .ensures) (test .before .before .get2 .ensures)
-    (at .before .before .before .below .ensures) (test .before .intersection2 .ensures) (test .is-subset .ensures) in
-    held-not _ _ _ _ _ (at .loop .inv) (low .0) (sym held ∙ not-true _ (c .if1 .taken))
+    let n = at .before .before .before .before .before .args .n in
+    let low = lowest-found 128 _ _ (sym (met .before .before .lowest .ensures) ∙ met .found .given .1) .0 in
+    let row = at .before .before .lent-row .ensures n (omega arith) in
+    let other = test .before .before .lent-row2 .ensures n (at .loop .inv .on _ low .0) in
+    let held = subset-is _ (omega arith) _ _ _ (at .before .before .before .below .ensures) _ _ _ _ _ other row refl (test .before .intersection2 .ensures) (test .is-subset .ensures) in
+    (λ e. absurd (false≢true e), λ e. covering-fails _ _ _ _ (at .loop .inv) _ low (omega arith) (sym held ∙ not-true _ (c .if1 .taken)))
+
+difference-requires : tie.Need-difference-requires Inv-loop μ-loop
+difference-requires c κs = search needs
 
 without-requires : tie.Need-without-requires Inv-loop μ-loop
 without-requires c κs = search needs
 
 loop-less : tie.Need-loop-less Inv-loop μ-loop
 loop-less c =
-    let met = c .before .before .before .before .before .before in
-    let low = lowest-found 128 _ _ (sym (met .before .before .lowest .ensures) ∙ met .found .given .1) in
-    omega (arith, without-count _ _ _ (low .0) (c .without .ensures))
+    let met = c .before .before .before .before .before .before .before in
+    let low = lowest-found 128 _ _ (sym (met .before .before .lowest .ensures) ∙ met .found .given .1) .0 in
+    covering-less _ _ _ _ (met .before .before .before .loop .inv) _ low _ _ _ (c .before .difference .ensures) (c .without .ensures)
 
 loop-again : tie.Need-loop-again Inv-loop μ-loop
 loop-again c =
-    let test = c .before .before in
-    let at = test .before .before .before .before .before .before .before in
-    let held = held-is _ _ _ _ _ _ _ _ _ (omega arith) (at .before .before .get .ensures) (test .before .before .get2 .ensures)
-    (at .before .before .before .below .ensures) (test .before .intersection2 .ensures) (test .is-subset .ensures) in
-    held-next _ _ _ _ _ _ (at .loop .inv) (sym held ∙ not-false _ (c .before .if1 .left)) (c .without .ensures)
+    let test = c .before .before .before in
+    let met = test .before .before .before .before in
+    let at = met .before .before .before in
+    let start = at .before .before .before .before .before in
+    let n = start .args .n in
+    let low = lowest-found 128 _ _ (sym (met .before .before .lowest .ensures) ∙ met .found .given .1) .0 in
+    let row = at .before .before .lent-row .ensures n (start .pre .1) in
+    let other = test .before .before .lent-row2 .ensures n (at .loop .inv .on _ low .0) in
+    let held = subset-is _ (start .pre .0) _ _ _ (at .before .before .before .below .ensures) _ _ _ _ _ other row refl (test .before .intersection2 .ensures) (test .is-subset .ensures) in
+    covering-goes _ _ _ _ (at .loop .inv) _ low _ _ _ (c .before .difference .ensures) (c .without .ensures) _ _ (start .pre .0) other (at .before .before .before .below .ensures)
+    (test .before .intersection2 .ensures) (sym held ∙ not-false _ (c .before .before .if1 .left))
 
 pub row-closed-spec : {M : Type 1} → statement M
 row-closed-spec =
@@ -84,17 +102,18 @@ row-closed-spec =
     Inv-loop
     μ-loop
     below-requires
-    get-requires
+    lent-row-requires
     intersection-requires
     loop-holds
     lowest-requires
     enum-known-found
     enum-told
     returns
-    get-requires-2
+    lent-row-requires-2
     intersection-requires-2
     is-subset-requires
     returns-2
+    difference-requires
     without-requires
     loop-less
     loop-again)

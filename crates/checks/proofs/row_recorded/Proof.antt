@@ -1,30 +1,22 @@
 -- `checks::row_recorded` meets its contract. Assumes nothing.
-use mathlib.Core.Path.{sym, _∙_}
+use mathlib.Core.Path.{refl}
 use native.Mathlib.Omega.{arith}
-use borrow.Author.Tests.{not-true, not-false}
 use borrow.Author.Needs.{needs}
-use Rattle.places.specs.Sets.{same}
-use Rattle.checks.proofs.Laws.{row-free, row-same}
+use Rattle.checks.proofs.Laws.{row-is, same-is}
 use Rattle.checks.proofs.row_recorded.Statement.{statement}
 use Rattle.checks.proofs.row_recorded.Tie as tie
-
-contains-requires : tie.Need-contains-requires
-contains-requires c κs = search needs
-
-returns : tie.Need-returns
-returns c = row-free _ _ (sym (c .before .contains .ensures) ∙ not-true _ (c .if1 .taken))
 
 below-requires : tie.Need-below-requires
 below-requires c κs = search needs
 
-get-requires : tie.Need-get-requires
-get-requires c κs = search needs
+lent-row-requires : tie.Need-lent-row-requires
+lent-row-requires c κs = omega arith
 
 intersection-requires : tie.Need-intersection-requires
 intersection-requires c κs = search needs
 
-get-requires-2 : tie.Need-get-requires-2
-get-requires-2 c κs = search needs
+get-requires : tie.Need-get-requires
+get-requires c κs = search needs
 
 intersection-requires-2 : tie.Need-intersection-requires-2
 intersection-requires-2 c κs = search needs
@@ -32,23 +24,22 @@ intersection-requires-2 c κs = search needs
 same-requires : tie.Need-same-requires
 same-requires c κs = search needs
 
-returns-2 : tie.Need-returns-2
-returns-2 c =
-    let test = c .before .before .before .before .before .before in
-    let back = sym (test .before .contains .ensures) ∙ not-false _ (test .if1 .left) in
-    row-same _ _ _ _ _ _ _ _ _ _ _ (omega arith) back (c .before .before .before .before .get .ensures) (c .before .before .get2 .ensures) (c .before .before .before .before .before .below .ensures)
-    (c .before .before .before .intersection .ensures) (c .before .intersection2 .ensures) (c .same .ensures)
+returns : tie.Need-returns
+returns c =
+    let below = c .before .before .before .before .before in
+    let lent = c .before .before .before .before .lent-row .ensures (below .before .before .args .n) (omega arith) in
+    let roster = below .below .ensures in
+    let recorded = row-is _ _ _ (c .before .before .get .ensures) in
+    same-is _ (omega arith) _ _ _ roster _ _ _ _ _ lent recorded refl (c .before .before .before .intersection .ensures) _ (c .before .intersection2 .ensures) (c .same .ensures)
 
 pub row-recorded-spec : {M : Type 1} → statement M
 row-recorded-spec =
     tie.close
     (tie.spec
-    contains-requires
-    returns
     below-requires
-    get-requires
+    lent-row-requires
     intersection-requires
-    get-requires-2
+    get-requires
     intersection-requires-2
     same-requires
-    returns-2)
+    returns)

@@ -8,11 +8,14 @@ use Rattle.recovery.proofs.keep.Tie as tie
 with-requires : tie.Need-with-requires
 with-requires c κs = search needs
 
+union-requires : tie.Need-union-requires
+union-requires c κs = search needs
+
 set-requires : tie.Need-set-requires
 set-requires c κs = search needs
 
 returns : tie.Need-returns
-returns c = keep-is _ _ _ _ _ (omega arith) (omega arith) (c .before .before .with .ensures) (c .set .ensures)
+returns c = keep-is _ _ _ _ _ _ (omega arith) (omega arith) (omega arith) (c .before .before .before .before .with .ensures) (c .before .before .union .ensures) (c .set .ensures)
 
 pub keep-spec : {M : Type 1} → statement M
-keep-spec = tie.close (tie.spec with-requires set-requires returns)
+keep-spec = tie.close (tie.spec with-requires union-requires set-requires returns)

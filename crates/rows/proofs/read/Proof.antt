@@ -1,6 +1,7 @@
 -- `rows::read` meets its contract. Assumes nothing.
+use mathlib.Core.Path.{sym, _∙_}
 use native.Mathlib.Omega.{arith}
-use Rattle.rows.proofs.Bytes.{row-misfits, row-fits}
+use Rattle.rows.proofs.Bytes.{row-out, row-fits}
 use borrow.Author.Needs.{needs}
 use Rattle.rows.proofs.read.Statement.{statement}
 use Rattle.rows.proofs.read.Tie as tie
@@ -9,7 +10,7 @@ empty-requires : tie.Need-empty-requires
 empty-requires c κs = search needs
 
 returns : tie.Need-returns
-returns c = row-misfits _ _ _ (omega arith) (c .empty .ensures)
+returns c = c .empty .ensures ∙ sym (row-out _ _ (omega arith))
 
 sub-if2 : tie.Need-sub-if2
 sub-if2 c = search needs
@@ -18,7 +19,7 @@ empty-requires-2 : tie.Need-empty-requires-2
 empty-requires-2 c κs = search needs
 
 returns-2 : tie.Need-returns-2
-returns-2 c = row-misfits _ _ _ (omega arith) (c .empty2 .ensures)
+returns-2 c = c .empty2 .ensures ∙ sym (row-out _ _ (omega arith))
 
 add-half : tie.Need-add-half
 add-half c = search needs

@@ -1,8 +1,9 @@
 -- `shows::show` meets its contract. Assumes nothing.
 use mathlib.Core.Path.{sym, _∙_}
 use native.Mathlib.Omega.{arith}
+use Rattle.answers.proofs.Views.{size-at-most}
+use Rattle.shows.proofs.Laws.{blocker-at, blocker-open, blocker-none, show-12, show-last, show-not-last}
 use borrow.Author.Needs.{needs}
-use Rattle.shows.proofs.Laws.{meant, meant-is, show-12, show-last, show-not-last}
 use Rattle.shows.proofs.show.Statement.{statement}
 use Rattle.shows.proofs.show.Tie as tie
 
@@ -10,39 +11,47 @@ size-requires : tie.Need-size-requires
 size-requires c κs = search needs
 
 returns : tie.Need-returns
-returns c = show-12 _ _ _ _ _ _ _ (omega (arith, c .before .before .size .ensures .0))
+returns c = show-12 _ _ _ _ _ _ _ _ (omega (arith, c .before .before .size .ensures .0))
 
-answer-for-requires : tie.Need-answer-for-requires
-answer-for-requires c κs = search needs
+contains-requires : tie.Need-contains-requires
+contains-requires c κs = search needs
+
+returns-2 : tie.Need-returns-2
+returns-2 c =
+    let s = c .before .before .before .before .size .ensures in
+    show-not-last _ _ _ _ _ _ _ _ (omega (arith, s .0)) (sym (c .before .contains .ensures) ∙ c .if2 .taken)
+
+blockers-requires : tie.Need-blockers-requires
+blockers-requires c κs = search needs
+
+lowest-requires : tie.Need-lowest-requires
+lowest-requires c κs = search needs
+
+enum-known-found : tie.Need-enum-known-found
+enum-known-found c = search needs
 
 enum-told : tie.Need-enum-told
 enum-told c = search needs
 
-enum-told-2 : tie.Need-enum-told-2
-enum-told-2 c = search needs
-
-enum-told-3 : tie.Need-enum-told-3
-enum-told-3 c = search needs
-
-show-open-requires : tie.Need-show-open-requires
-unfolding meant
-show-open-requires c κs =
-    let told = c .before .before in
-    let answer = told .before .before in
-    let s = answer .before .before .before .size .ensures in
-    (omega (arith, s .0), meant-is _ _ (sym (told .enum-told3 .given .1) ∙ answer .answer-for .ensures))
-
-returns-2 : tie.Need-returns-2
-returns-2 c =
-    let answer = c .before .before in
-    let s = answer .before .before .before .size .ensures in
-    show-last _ _ _ _ _ _ _ (omega (arith, s .0)) (sym (c .enum-told .given .1) ∙ answer .answer-for .ensures)
-
 returns-3 : tie.Need-returns-3
 returns-3 c =
-    let answer = c .before .before in
-    let s = answer .before .before .before .size .ensures in
-    show-not-last _ _ _ _ _ _ _ (omega (arith, s .0)) (sym (c .enum-told2 .given .1) ∙ answer .answer-for .ensures)
+    let low = c .before .before in
+    let b = low .before in
+    let d = b .before .before in
+    let s = d .before .before .before .size .ensures in
+    show-last _ _ _ _ _ _ _ _ (omega (arith, s .0))
+    (blocker-none _ _ _ _ _ (size-at-most _) _ (b .blockers .ensures) _ (low .lowest .ensures) (c .enum-told .given .1) (sym (d .contains .ensures) ∙ b .before .if2 .left))
+
+show-open-requires : tie.Need-show-open-requires
+show-open-requires c κs =
+    let f = c .before .before .before in
+    let low = f .before .before in
+    let b = low .before in
+    let d = b .before .before in
+    let s = d .before .before .before .size .ensures in
+    let at = blocker-at _ _ _ _ _ (size-at-most _) _ (b .blockers .ensures) _ (low .lowest .ensures) _ (f .found .given .1) in
+    let is = blocker-open _ _ _ _ _ (size-at-most _) _ (b .blockers .ensures) _ (low .lowest .ensures) _ (f .found .given .1) (sym (d .contains .ensures) ∙ b .before .if2 .left) in
+    ((omega (arith, s .0), is), at)
 
 same-length : tie.Need-same-length
 same-length c = search needs
@@ -59,13 +68,14 @@ show-spec =
     (tie.spec
     size-requires
     returns
-    answer-for-requires
-    enum-told
-    enum-told-2
-    enum-told-3
-    show-open-requires
+    contains-requires
     returns-2
+    blockers-requires
+    lowest-requires
+    enum-known-found
+    enum-told
     returns-3
+    show-open-requires
     same-length
     same-length-2
     returns-4)
