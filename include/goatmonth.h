@@ -12,7 +12,7 @@
  * Nothing else is asked. Every number and every byte has an answer, stated below: places and positions up to SIZE_MAX, damaged
  * records, and whatever values the words of a struct hold.
  *
- * A refusal is a number from 1 to 15. A refused call writes nothing.
+ * A refusal is a number from 1 to 15. A refused call writes nothing; of a list of events, those before the refused one stand.
  *
  * The functions named gm_recovery_.., gm_day_start and so on are thin: they pass the parts of one struct to the library.
  */
@@ -72,23 +72,51 @@ enum {
 /* ---- structs ---- */
 
 /*
- * A recovery. head[0] is the kind (GM_SHORT is short, any other word counts as full), head[1] the number of members (above 128
- * counts as 128), head[2] and head[3] the places that are back: place k is bit k of head[2], or bit k - 64 of head[3]. The first
- * head[1] serials are the roster, and rows[2k], rows[2k + 1] the places that the record of k mourns, in the same way. Bits for places
- * off the roster, and rows of places that are not back, are never looked at. A plain value: copies are recoveries of their own.
+ * A recovery.
+ *   head     head[0] is the kind (GM_SHORT is short, any other word counts as full), head[1] the number of members (above 128 counts
+ *            as 128), head[2] and head[3] the places that are back: place k is bit k of head[2], or bit k - 64 of head[3];
+ *   mourned  all places that a record taken so far names, as two words in the same way;
+ *   serials  the first head[1] are the roster;
+ *   rows     16 bytes for each place, laid out as a history: in the row of a place that is back stand the places that its record
+ *            mourns, place k as bit k % 8 of byte k / 8. The row of a place that is not back is empty.
+ * gm_open and gm_offer keep it so, and then every answer is the one that the records give. A plain value: copies are recoveries of
+ * their own.
+ *
+ * A caller that writes into the struct itself gets answers by what it wrote. Who is mourned is what `mourned` says, and no call holds
+ * it against the rows: gm_ask, gm_settled, gm_show and the three gm_unmourned.. go by it, and gm_offer adds to it. The record of a
+ * place that is back is its row, without bits off the roster: gm_offer, gm_check and gm_write go by these records, and so do gm_ask,
+ * gm_settled and gm_show where they follow records. gm_show lays the rows of the roster down as they stand, whoever is back and with
+ * all their bits, but for the one row that makes the second history differ. Other bits off the roster, other rows, and serials behind
+ * the roster are never looked at.
  */
 typedef struct gm_recovery {
     uint64_t head[4];
+    uint64_t mourned[2];
     uint32_t serials[128];
-    uint64_t rows[256];
+    uint8_t rows[2048];
 } gm_recovery;
 
-/* A day of stops. As a recovery, but head[2] and head[3] are the places that have stopped, and every row counts: whom each has heard. */
+/* A day of stops: head, serials and rows as in a recovery, but head[2] and head[3] are the places that have stopped, and every row of
+ * the roster counts: whom each has heard. Bits for places off the roster are not looked at. */
 typedef struct gm_day {
     uint64_t head[4];
     uint32_t serials[128];
-    uint64_t rows[256];
+    uint8_t rows[2048];
 } gm_day;
+
+/* An event of a day: GM_STOP, where `place` stops and `other` is not looked at, or GM_HEAR, where `place` hears that `other` stopped. */
+typedef struct gm_event {
+    uint64_t kind;
+    uint64_t place;
+    uint64_t other;
+} gm_event;
+
+/* What a list of events gives: how many were played, the refusal that ended the play or GM_DONE, and the day after those played. */
+typedef struct gm_played {
+    uint64_t count;
+    uint64_t refusal;
+    gm_day day;
+} gm_played;
 
 /* What a writer gives: GM_DONE and the position behind the record, or a refusal and 0. */
 typedef struct gm_end {
@@ -97,7 +125,7 @@ typedef struct gm_end {
 } gm_end;
 
 /* A record that was read: its kind, the place of its own serial, the position where its roster's serials start and how many they
- * are, the mourned places as in a row, and the position behind the record. */
+ * are, the mourned places as two words, and the position behind the record. */
 typedef struct gm_record {
     uint64_t kind;
     uint64_t own;
@@ -110,40 +138,42 @@ typedef struct gm_record {
 /* ---- the library: a recovery by its parts ---- */
 
 /* Opens a recovery with nobody back: GM_DONE, or 2, 3, then 4 for a zero anywhere, then 5 for a repeat anywhere. */
-uint8_t gm_open(uint8_t kind, const uint32_t *list, size_t length, uint64_t head[4], uint32_t serials[128], uint64_t rows[256]);
+uint8_t gm_open(uint8_t kind, const uint32_t *list, size_t length, uint64_t head[4], uint64_t mourned[2], uint32_t serials[128],
+                uint8_t rows[2048]);
 
 /* Offers a lone record: GM_DONE for taken, GM_REPEATED, or 1 to 11 in this order. Only a record that is taken changes anything. */
-uint8_t gm_offer(uint64_t head[4], const uint32_t serials[128], uint64_t rows[256], const uint8_t *bytes, size_t length);
+uint8_t gm_offer(uint64_t head[4], uint64_t mourned[2], const uint32_t serials[128], uint8_t rows[2048], const uint8_t *bytes,
+                 size_t length);
 
 /* The answer for a place: GM_LAST, GM_NOT_LAST, GM_OPEN, or 12. */
-uint8_t gm_ask(const uint64_t head[4], const uint64_t rows[256], size_t place);
+uint8_t gm_ask(const uint64_t head[4], const uint64_t mourned[2], const uint8_t rows[2048], size_t place);
 
 /* The place of a serial, or GM_NOT_FOUND. */
 size_t gm_find(const uint64_t head[4], const uint32_t serials[128], uint32_t serial);
 
-/* The places that no returned record names, and those of them that are not back. A set as in a row; no bit is off the roster. */
-void gm_unmourned(const uint64_t head[4], const uint64_t rows[256], uint64_t out[2]);
-void gm_unmourned_absent(const uint64_t head[4], const uint64_t rows[256], uint64_t out[2]);
+/* The places that are not mourned, and those of them that are not back, as two words. No bit is off the roster. */
+void gm_unmourned(const uint64_t head[4], const uint64_t mourned[2], uint64_t out[2]);
+void gm_unmourned_absent(const uint64_t head[4], const uint64_t mourned[2], uint64_t out[2]);
 
-/* How many places no returned record names. */
-size_t gm_unmourned_count(const uint64_t head[4], const uint64_t rows[256]);
+/* How many places are not mourned. */
+size_t gm_unmourned_count(const uint64_t head[4], const uint64_t mourned[2]);
 
 /* 1 if no place is open, else 0. */
-uint8_t gm_settled(const uint64_t head[4], const uint64_t rows[256]);
+uint8_t gm_settled(const uint64_t head[4], const uint64_t mourned[2], const uint8_t rows[2048]);
 
 /*
  * Two histories that fit, the place last in the first and not in the second: GM_DONE and both are laid down, 12, GM_DECIDED, or 13
  * where a buffer is shorter than 16 bytes a member (GM_DECIDED comes before 13). A history is the rows in roster order, 16 bytes
  * each: place k is bit k % 8 of byte k / 8. Bytes behind the rows stay as they are.
  */
-uint8_t gm_show(const uint64_t head[4], const uint64_t rows[256], size_t place, uint8_t *first, size_t first_length, uint8_t *second,
-                size_t second_length);
+uint8_t gm_show(const uint64_t head[4], const uint64_t mourned[2], const uint8_t rows[2048], size_t place, uint8_t *first,
+                size_t first_length, uint8_t *second, size_t second_length);
 
 /* Whether a history agrees with the records: GM_FITS, GM_FITS_NOT, 13, then 15. Bytes behind the rows are not looked at. */
-uint8_t gm_check(const uint64_t head[4], const uint64_t rows[256], const uint8_t *history, size_t length);
+uint8_t gm_check(const uint64_t head[4], const uint8_t rows[2048], const uint8_t *history, size_t length);
 
 /* Writes the record of a returned place into `out` from position `at` on: its end, or 12, 14, 13. Other bytes stay as they are. */
-gm_end gm_write(const uint64_t head[4], const uint32_t serials[128], const uint64_t rows[256], size_t place, uint8_t *out, size_t length,
+gm_end gm_write(const uint64_t head[4], const uint32_t serials[128], const uint8_t rows[2048], size_t place, uint8_t *out, size_t length,
                 size_t at);
 
 /* ---- the library: records ---- */
@@ -168,31 +198,35 @@ gm_end gm_write_record(uint8_t kind, size_t own, const uint32_t *roster, size_t 
 /* ---- the library: a day by its parts ---- */
 
 /* Opens a day on which all run: as gm_open. */
-uint8_t gm_day_open(uint8_t kind, const uint32_t *list, size_t length, uint64_t head[4], uint32_t serials[128], uint64_t rows[256]);
+uint8_t gm_day_open(uint8_t kind, const uint32_t *list, size_t length, uint64_t head[4], uint32_t serials[128], uint8_t rows[2048]);
 
 /* One event: GM_DONE, 12, or 14. GM_STOP needs `place` running and does not look at `other`; GM_HEAR needs `place` running and
  * `other` stopped. Any other kind is 14, whatever the places. */
-uint8_t gm_day_event(uint64_t head[4], const uint32_t serials[128], uint64_t rows[256], uint8_t kind, size_t place, size_t other);
+uint8_t gm_day_event(uint64_t head[4], const uint32_t serials[128], uint8_t rows[2048], uint8_t kind, size_t place, size_t other);
 
-/* Writes the record of a place that has stopped: as gm_write. */
-gm_end gm_day_write(const uint64_t head[4], const uint32_t serials[128], const uint64_t rows[256], size_t place, uint8_t *out,
+/* Events in order, up to the first that is refused with 12 or 14, as gm_day_event has it. The day goes in by value and comes back by
+ * value; the caller's own is not written. */
+gm_played gm_day_play(gm_day day, const gm_event *events, size_t length);
+
+/* Writes the record of a place that has stopped: its end, or 12, 14 (it runs), 13, as gm_write. */
+gm_end gm_day_write(const uint64_t head[4], const uint32_t serials[128], const uint8_t rows[2048], size_t place, uint8_t *out,
                     size_t length, size_t at);
 
 /* ---- a recovery behind one pointer ---- */
 
 static inline uint8_t gm_recovery_open(gm_recovery *r, uint8_t kind, const uint32_t *list, size_t length)
 {
-    return gm_open(kind, list, length, r->head, r->serials, r->rows);
+    return gm_open(kind, list, length, r->head, r->mourned, r->serials, r->rows);
 }
 
 static inline uint8_t gm_recovery_offer(gm_recovery *r, const uint8_t *bytes, size_t length)
 {
-    return gm_offer(r->head, r->serials, r->rows, bytes, length);
+    return gm_offer(r->head, r->mourned, r->serials, r->rows, bytes, length);
 }
 
 static inline uint8_t gm_recovery_ask(const gm_recovery *r, size_t place)
 {
-    return gm_ask(r->head, r->rows, place);
+    return gm_ask(r->head, r->mourned, r->rows, place);
 }
 
 static inline size_t gm_recovery_find(const gm_recovery *r, uint32_t serial)
@@ -202,28 +236,28 @@ static inline size_t gm_recovery_find(const gm_recovery *r, uint32_t serial)
 
 static inline void gm_recovery_unmourned(const gm_recovery *r, uint64_t out[2])
 {
-    gm_unmourned(r->head, r->rows, out);
+    gm_unmourned(r->head, r->mourned, out);
 }
 
 static inline void gm_recovery_unmourned_absent(const gm_recovery *r, uint64_t out[2])
 {
-    gm_unmourned_absent(r->head, r->rows, out);
+    gm_unmourned_absent(r->head, r->mourned, out);
 }
 
 static inline size_t gm_recovery_unmourned_count(const gm_recovery *r)
 {
-    return gm_unmourned_count(r->head, r->rows);
+    return gm_unmourned_count(r->head, r->mourned);
 }
 
 static inline uint8_t gm_recovery_settled(const gm_recovery *r)
 {
-    return gm_settled(r->head, r->rows);
+    return gm_settled(r->head, r->mourned, r->rows);
 }
 
 static inline uint8_t gm_recovery_show(const gm_recovery *r, size_t place, uint8_t *first, size_t first_length, uint8_t *second,
                                        size_t second_length)
 {
-    return gm_show(r->head, r->rows, place, first, first_length, second, second_length);
+    return gm_show(r->head, r->mourned, r->rows, place, first, first_length, second, second_length);
 }
 
 static inline uint8_t gm_recovery_check(const gm_recovery *r, const uint8_t *history, size_t length)
@@ -298,6 +332,15 @@ static inline uint8_t gm_day_stop(gm_day *d, size_t place)
 static inline uint8_t gm_day_hear(gm_day *d, size_t place, size_t other)
 {
     return gm_day_happen(d, GM_HEAR, place, other);
+}
+
+/* Plays a list of events: GM_DONE, or the refusal that ended the play. `d` is the day after those played, which are `*played`. */
+static inline uint8_t gm_day_happen_all(gm_day *d, const gm_event *events, size_t length, size_t *played)
+{
+    gm_played p = gm_day_play(*d, events, length);
+    *d = p.day;
+    *played = (size_t)p.count;
+    return (uint8_t)p.refusal;
 }
 
 static inline gm_end gm_day_record(const gm_day *d, size_t place, uint8_t *out, size_t length, size_t at)

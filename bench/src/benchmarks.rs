@@ -4,7 +4,7 @@ use crate::plain::Kind::{self, Full, Short};
 use crate::plain::record;
 use crate::plain::recovery::{Answer, Recovery};
 use crate::plain::set::below;
-use crate::proved::{self, State};
+use crate::proved;
 use crate::random::Random;
 use crate::timing::{Table, calls};
 use std::hint::black_box;
@@ -47,11 +47,12 @@ fn reading(table: &mut Table) {
     }
 }
 
-// A group, its records in some order, and both recoveries with so many of them taken.
+// A group, its records in some order, and both recoveries with so many of them taken. Rows and buffers of both sides are on the heap,
+// where they lie at multiples of 16 bytes.
 struct Scene {
     group: Group,
     records: Vec<Vec<u8>>,
-    library: State,
+    library: Box<proved::Recovery>,
     plain: Recovery,
 }
 
@@ -61,7 +62,7 @@ fn scene(seed: u64, kind: Kind, n: usize, percent: usize, taken: usize) -> Scene
     let group = Group { kind, roster: make::ordered("random order", n), truth };
     let mut records: Vec<Vec<u8>> = (0..n).map(|p| group.record(p).bytes()).collect();
     random.shuffle(&mut records);
-    let mut library = State::zero();
+    let mut library = Box::new(proved::Recovery::zero());
     library.open(kind as u8, &group.roster);
     let mut plain = Recovery::new(kind, &group.roster);
     for record in &records[..taken] {
@@ -77,15 +78,14 @@ fn half_back(kind: Kind, n: usize) -> (Scene, usize) {
     scenes.filter_map(|scene| open(&scene).map(|place| (scene, place))).next().expect("one of them all")
 }
 
-// Every member's record, taken one after the other by a recovery with nobody back, which is laid ready each time.
+// Every member's record, taken one after the other by a recovery that goes back to nobody returned each time.
 fn offering(table: &mut Table, kind: Kind) {
     for n in SIZES {
-        let Scene { records, library, mut plain, .. } = scene(0, kind, n, 50, 0);
-        let mut state = library.clone();
+        let Scene { records, mut library, mut plain, .. } = scene(0, kind, n, 50, 0);
         let times = calls(
             || {
-                state.clone_from(&library);
-                records.iter().for_each(|record| _ = black_box(state.offer(black_box(record))));
+                library.reset();
+                records.iter().for_each(|record| _ = black_box(library.offer(black_box(record))));
             },
             || {
                 plain.reset();
@@ -98,17 +98,13 @@ fn offering(table: &mut Table, kind: Kind) {
 
 // All places, with half of the members back.
 fn asking(table: &mut Table, kind: Kind) {
-    for from_rows in [true, false] {
-        for n in SIZES {
-            let (Scene { library, plain, .. }, _) = half_back(kind, n);
-            let ask = if from_rows { Recovery::ask_from_rows } else { Recovery::ask };
-            let times = calls(
-                || (0..n).for_each(|place| _ = black_box(library.ask(black_box(place)))),
-                || (0..n).for_each(|place| _ = black_box(ask(&plain, black_box(place)))),
-            );
-            let how = if from_rows { "plain from the rows" } else { "plain keeps the mourned set" };
-            table.add(&format!("asking every place, {}, {how}", word(kind)), n, times);
-        }
+    for n in SIZES {
+        let (Scene { library, plain, .. }, _) = half_back(kind, n);
+        let times = calls(
+            || (0..n).for_each(|place| _ = black_box(library.ask(black_box(place)))),
+            || (0..n).for_each(|place| _ = black_box(plain.ask(black_box(place)))),
+        );
+        table.add(&format!("asking every place, {}", word(kind)), n, times);
     }
 }
 
@@ -116,9 +112,9 @@ fn asking(table: &mut Table, kind: Kind) {
 fn showing(table: &mut Table, kind: Kind) {
     for n in SIZES {
         let (Scene { library, plain, .. }, place) = half_back(kind, n);
-        let (mut first, mut second) = ([0; 2048], [0; 2048]);
+        let (mut first, mut second) = (vec![0; 2048], vec![0; 2048]);
         assert_eq!((library.show(place, &mut first, &mut second), plain.show(place, &mut first, &mut second).is_ok()), (0, true));
-        let (mut their_first, mut their_second) = ([0; 2048], [0; 2048]);
+        let (mut their_first, mut their_second) = (vec![0; 2048], vec![0; 2048]);
         let times = calls(
             || _ = black_box(library.show(black_box(place), &mut their_first, &mut their_second)),
             || _ = black_box(plain.show(black_box(place), &mut first, &mut second)),

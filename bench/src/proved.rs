@@ -1,20 +1,64 @@
 // The proved library: its functions as include/goatmonth.h declares them, and methods that lend slices.
+use std::fmt::{Debug, Formatter, Result};
 
-// A recovery or a day: gm_recovery and gm_day of the header.
+pub type Head = [u64; 4];
+pub type Serials = [u32; 128];
+pub type Rows = [u8; 2048];
+
+// gm_recovery of the header.
 #[repr(C)]
 #[derive(Clone, PartialEq, Eq)]
-pub struct State {
-    pub head: [u64; 4],
-    pub serials: [u32; 128],
-    pub rows: [u64; 256],
+pub struct Recovery {
+    pub head: Head,
+    pub mourned: [u64; 2],
+    pub serials: Serials,
+    pub rows: Rows,
 }
 
-// All words that are not 0, with their places.
-impl std::fmt::Debug for State {
-    fn fmt(&self, f: &mut std::fmt::Formatter) -> std::fmt::Result {
+// gm_day of the header.
+#[repr(C)]
+#[derive(Clone, Copy, PartialEq, Eq)]
+pub struct Day {
+    pub head: Head,
+    pub serials: Serials,
+    pub rows: Rows,
+}
+
+// gm_event of the header.
+#[repr(C)]
+#[derive(Clone, Copy, Debug, PartialEq, Eq)]
+pub struct Event {
+    pub kind: u64,
+    pub place: u64,
+    pub other: u64,
+}
+
+// gm_played of the header.
+#[repr(C)]
+#[derive(Clone, Debug, PartialEq, Eq)]
+pub struct Played {
+    pub count: u64,
+    pub refusal: u64,
+    pub day: Day,
+}
+
+// The words, then all serials and bytes of rows that are not 0, with their positions.
+fn show_parts(f: &mut Formatter, serials: &Serials, rows: &Rows) -> Result {
+    serials.iter().enumerate().filter(|x| *x.1 != 0).try_for_each(|(k, x)| write!(f, " serial {k} {x}"))?;
+    rows.iter().enumerate().filter(|x| *x.1 != 0).try_for_each(|(k, x)| write!(f, " row byte {k} {x:02x}"))
+}
+
+impl Debug for Recovery {
+    fn fmt(&self, f: &mut Formatter) -> Result {
+        write!(f, "head {:x?} mourned {:x?}", self.head, self.mourned)?;
+        show_parts(f, &self.serials, &self.rows)
+    }
+}
+
+impl Debug for Day {
+    fn fmt(&self, f: &mut Formatter) -> Result {
         write!(f, "head {:x?}", self.head)?;
-        self.serials.iter().enumerate().filter(|x| *x.1 != 0).try_for_each(|(k, x)| write!(f, " serial {k} {x}"))?;
-        self.rows.iter().enumerate().filter(|x| *x.1 != 0).try_for_each(|(k, x)| write!(f, " row word {k} {x:x}"))
+        show_parts(f, &self.serials, &self.rows)
     }
 }
 
@@ -26,20 +70,33 @@ pub struct End {
     pub next: u64,
 }
 
-type Head = [u64; 4];
-type Serials = [u32; 128];
-type Rows = [u64; 256];
-
 unsafe extern "C" {
-    fn gm_open(kind: u8, list: *const u32, length: usize, head: &mut Head, serials: &mut Serials, rows: &mut Rows) -> u8;
-    fn gm_offer(head: &mut Head, serials: &Serials, rows: &mut Rows, bytes: *const u8, length: usize) -> u8;
-    fn gm_ask(head: &Head, rows: &Rows, place: usize) -> u8;
+    fn gm_open(
+        kind: u8,
+        list: *const u32,
+        length: usize,
+        head: &mut Head,
+        mourned: &mut [u64; 2],
+        serials: &mut Serials,
+        rows: &mut Rows,
+    ) -> u8;
+    fn gm_offer(head: &mut Head, mourned: &mut [u64; 2], serials: &Serials, rows: &mut Rows, bytes: *const u8, length: usize) -> u8;
+    fn gm_ask(head: &Head, mourned: &[u64; 2], rows: &Rows, place: usize) -> u8;
     fn gm_find(head: &Head, serials: &Serials, serial: u32) -> usize;
-    fn gm_unmourned(head: &Head, rows: &Rows, out: &mut [u64; 2]);
-    fn gm_unmourned_absent(head: &Head, rows: &Rows, out: &mut [u64; 2]);
-    fn gm_unmourned_count(head: &Head, rows: &Rows) -> usize;
-    fn gm_settled(head: &Head, rows: &Rows) -> u8;
-    fn gm_show(head: &Head, rows: &Rows, place: usize, first: *mut u8, first_length: usize, second: *mut u8, second_length: usize) -> u8;
+    fn gm_unmourned(head: &Head, mourned: &[u64; 2], out: &mut [u64; 2]);
+    fn gm_unmourned_absent(head: &Head, mourned: &[u64; 2], out: &mut [u64; 2]);
+    fn gm_unmourned_count(head: &Head, mourned: &[u64; 2]) -> usize;
+    fn gm_settled(head: &Head, mourned: &[u64; 2], rows: &Rows) -> u8;
+    fn gm_show(
+        head: &Head,
+        mourned: &[u64; 2],
+        rows: &Rows,
+        place: usize,
+        first: *mut u8,
+        first_length: usize,
+        second: *mut u8,
+        second_length: usize,
+    ) -> u8;
     fn gm_check(head: &Head, rows: &Rows, history: *const u8, length: usize) -> u8;
     fn gm_write(head: &Head, serials: &Serials, rows: &Rows, place: usize, out: *mut u8, length: usize, at: usize) -> End;
     fn gm_read(bytes: *const u8, length: usize, at: usize, out: &mut [u64; 7]) -> u8;
@@ -59,24 +116,31 @@ unsafe extern "C" {
     fn gm_day_open(kind: u8, list: *const u32, length: usize, head: &mut Head, serials: &mut Serials, rows: &mut Rows) -> u8;
     fn gm_day_event(head: &mut Head, serials: &Serials, rows: &mut Rows, kind: u8, place: usize, other: usize) -> u8;
     fn gm_day_write(head: &Head, serials: &Serials, rows: &Rows, place: usize, out: *mut u8, length: usize, at: usize) -> End;
+    fn gm_day_play(day: Day, events: *const Event, length: usize) -> Played;
 }
 
 // Each call below lends slices and arrays that Rust knows to be valid and apart, which is all that the header asks.
-impl State {
+impl Recovery {
     pub fn zero() -> Self {
-        State { head: [0; 4], serials: [0; 128], rows: [0; 256] }
+        Recovery { head: [0; 4], mourned: [0; 2], serials: [0; 128], rows: [0; 2048] }
     }
 
     pub fn open(&mut self, kind: u8, list: &[u32]) -> u8 {
-        unsafe { gm_open(kind, list.as_ptr(), list.len(), &mut self.head, &mut self.serials, &mut self.rows) }
+        unsafe { gm_open(kind, list.as_ptr(), list.len(), &mut self.head, &mut self.mourned, &mut self.serials, &mut self.rows) }
+    }
+
+    // Goes back to nobody returned: what an opening with the same list would write, but for the serials.
+    pub fn reset(&mut self) {
+        (self.head[2], self.head[3], self.mourned) = (0, 0, [0; 2]);
+        self.rows[..16 * self.head[1] as usize].fill(0);
     }
 
     pub fn offer(&mut self, bytes: &[u8]) -> u8 {
-        unsafe { gm_offer(&mut self.head, &self.serials, &mut self.rows, bytes.as_ptr(), bytes.len()) }
+        unsafe { gm_offer(&mut self.head, &mut self.mourned, &self.serials, &mut self.rows, bytes.as_ptr(), bytes.len()) }
     }
 
     pub fn ask(&self, place: usize) -> u8 {
-        unsafe { gm_ask(&self.head, &self.rows, place) }
+        unsafe { gm_ask(&self.head, &self.mourned, &self.rows, place) }
     }
 
     pub fn find(&self, serial: u32) -> usize {
@@ -84,23 +148,24 @@ impl State {
     }
 
     pub fn unmourned(&self, out: &mut [u64; 2]) {
-        unsafe { gm_unmourned(&self.head, &self.rows, out) }
+        unsafe { gm_unmourned(&self.head, &self.mourned, out) }
     }
 
     pub fn unmourned_absent(&self, out: &mut [u64; 2]) {
-        unsafe { gm_unmourned_absent(&self.head, &self.rows, out) }
+        unsafe { gm_unmourned_absent(&self.head, &self.mourned, out) }
     }
 
     pub fn unmourned_count(&self) -> usize {
-        unsafe { gm_unmourned_count(&self.head, &self.rows) }
+        unsafe { gm_unmourned_count(&self.head, &self.mourned) }
     }
 
     pub fn settled(&self) -> u8 {
-        unsafe { gm_settled(&self.head, &self.rows) }
+        unsafe { gm_settled(&self.head, &self.mourned, &self.rows) }
     }
 
     pub fn show(&self, place: usize, first: &mut [u8], second: &mut [u8]) -> u8 {
-        unsafe { gm_show(&self.head, &self.rows, place, first.as_mut_ptr(), first.len(), second.as_mut_ptr(), second.len()) }
+        let (first, first_length, second, second_length) = (first.as_mut_ptr(), first.len(), second.as_mut_ptr(), second.len());
+        unsafe { gm_show(&self.head, &self.mourned, &self.rows, place, first, first_length, second, second_length) }
     }
 
     pub fn check(&self, history: &[u8]) -> u8 {
@@ -110,16 +175,26 @@ impl State {
     pub fn write(&self, place: usize, out: &mut [u8], at: usize) -> End {
         unsafe { gm_write(&self.head, &self.serials, &self.rows, place, out.as_mut_ptr(), out.len(), at) }
     }
+}
 
-    pub fn day_open(&mut self, kind: u8, list: &[u32]) -> u8 {
+impl Day {
+    pub fn zero() -> Self {
+        Day { head: [0; 4], serials: [0; 128], rows: [0; 2048] }
+    }
+
+    pub fn open(&mut self, kind: u8, list: &[u32]) -> u8 {
         unsafe { gm_day_open(kind, list.as_ptr(), list.len(), &mut self.head, &mut self.serials, &mut self.rows) }
     }
 
-    pub fn day_event(&mut self, kind: u8, place: usize, other: usize) -> u8 {
+    pub fn event(&mut self, kind: u8, place: usize, other: usize) -> u8 {
         unsafe { gm_day_event(&mut self.head, &self.serials, &mut self.rows, kind, place, other) }
     }
 
-    pub fn day_write(&self, place: usize, out: &mut [u8], at: usize) -> End {
+    pub fn play(self, events: &[Event]) -> Played {
+        unsafe { gm_day_play(self, events.as_ptr(), events.len()) }
+    }
+
+    pub fn write(&self, place: usize, out: &mut [u8], at: usize) -> End {
         unsafe { gm_day_write(&self.head, &self.serials, &self.rows, place, out.as_mut_ptr(), out.len(), at) }
     }
 }

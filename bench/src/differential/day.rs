@@ -1,14 +1,14 @@
 // Lists of calls on a day, and a recovery over the records of one that has ended.
-use super::{Run, garbled, list_length, noise, opened, set_of, words};
+use super::{Run, garbled, list_length, noise, opened, put_row, row_of, set_of, words};
 use crate::make;
 use crate::plain::Kind;
 use crate::plain::day::{Day, Event};
 use crate::plain::set::{below, has};
-use crate::proved::State;
+use crate::proved::{self, Played, Recovery};
 
 struct Pair {
-    library: State,
-    wanted: State,
+    library: proved::Day,
+    wanted: proved::Day,
     plain: Day,
     // it was opened, and not made up
     opened: bool,
@@ -36,10 +36,10 @@ pub fn list(run: &mut Run) {
 fn try_open(run: &mut Run) {
     let (kind, list) = (make::kind(&mut run.random), make::list(&mut run.random));
     let mut library = noise(&mut run.random);
-    let before = library.clone();
+    let before = library;
     run.begin("day_open", &[kind as usize, list.len()], &[]);
     let plain = Day::open(kind, &list);
-    let code = library.day_open(kind, &list);
+    let code = library.open(kind, &list);
     run.answer(plain.as_ref().map_or_else(|refusal| *refusal, |_| 0) as u64, code as u64);
     run.same("the day afterwards", &if plain.is_ok() { opened(kind, &list) } else { before }, &library);
 }
@@ -47,7 +47,7 @@ fn try_open(run: &mut Run) {
 fn open(run: &mut Run, kind: u8, roster: &[u32]) -> Pair {
     let mut library = noise(&mut run.random);
     run.begin("day_open", &[kind as usize, roster.len()], &[]);
-    let code = library.day_open(kind, roster);
+    let code = library.open(kind, roster);
     run.answer(0, code as u64);
     run.same("the day afterwards", &opened(kind, roster), &library);
     Pair { library, wanted: opened(kind, roster), plain: Day::open(kind, roster).expect("a roster"), opened: true }
@@ -61,9 +61,9 @@ fn unmade(run: &mut Run, kind: u8, roster: &[u32]) -> Pair {
         kind: if library.head[0] == 2 { Kind::Short } else { Kind::Full },
         roster: library.serials[..n].to_vec(),
         stopped: set_of(&library.head[2..]) & below(n),
-        rows: library.rows.chunks_exact(2).take(n).map(|row| set_of(row) & below(n)).collect(),
+        rows: (0..n).map(|p| row_of(&library.rows, p) & below(n)).collect(),
     };
-    Pair { wanted: library.clone(), library, plain, opened: false }
+    Pair { wanted: library, library, plain, opened: false }
 }
 
 // An event: mostly one of a running place that hears a stopped one, or stops.
@@ -82,13 +82,25 @@ fn some_event(run: &mut Run, day: &Day, stops: usize) -> Event {
     Event { kind, place, other }
 }
 
-// What has stopped and what was heard only grows: the words on the roster become the plain day's.
+// Events that are each chosen for the day after those before it; in some lists only such as are allowed.
+fn some_events(run: &mut Run, day: &Day, stops: usize) -> Vec<Event> {
+    let mut day = day.clone();
+    let length = if run.random.chance(90) { run.random.below(8) } else { run.random.below(300) };
+    let allowed = run.random.chance(40);
+    let events = (0..length).map(|_| {
+        let event = some_event(run, &day, stops);
+        (event, day.event(event))
+    });
+    events.filter(|(_, outcome)| !allowed || outcome.is_ok()).map(|(event, _)| event).collect()
+}
+
+// What has stopped and what was heard only grows: on the roster both become the plain day's.
 fn grow(pair: &mut Pair) {
     let stopped = words(set_of(&pair.wanted.head[2..]) | pair.plain.stopped);
     pair.wanted.head[2..].copy_from_slice(&stopped);
-    for (row, plain) in pair.wanted.rows.chunks_exact_mut(2).zip(&pair.plain.rows) {
-        let grown = words(set_of(row) | plain);
-        row.copy_from_slice(&grown);
+    for (place, row) in pair.plain.rows.iter().enumerate() {
+        let grown = row_of(&pair.wanted.rows, place) | row;
+        put_row(&mut pair.wanted.rows, place, grown);
     }
 }
 
@@ -96,28 +108,35 @@ fn event(run: &mut Run, pair: &mut Pair, stops: usize) {
     let event = some_event(run, &pair.plain, stops);
     run.begin("day_event", &[event.kind as usize, event.place, event.other], &[]);
     let plain = pair.plain.event(event).err().unwrap_or(0);
-    let library = pair.library.day_event(event.kind, event.place, event.other);
+    let library = pair.library.event(event.kind, event.place, event.other);
     run.answer(plain as u64, library as u64);
     grow(pair);
 }
 
-// A list of events up to the first refusal, by the library's single events.
+// A list of events up to the first refusal: in one call, and by single events.
 fn play(run: &mut Run, pair: &mut Pair, stops: usize) {
-    let events: Vec<Event> = (0..run.random.below(8)).map(|_| some_event(run, &pair.plain, stops)).collect();
-    run.begin("a list of events", &[events.len()], &[]);
-    let (played, outcome) = pair.plain.play(&events);
-    let mut count = 0;
-    let mut refusal = 0;
-    for event in &events {
-        refusal = pair.library.day_event(event.kind, event.place, event.other);
-        if refusal != 0 {
-            break;
-        }
-        count += 1;
-    }
-    run.same("played", &played, &count);
-    run.answer(outcome.err().unwrap_or(0) as u64, refusal as u64);
+    let events = some_events(run, &pair.plain, stops);
+    let lent: Vec<proved::Event> = events.iter().map(|event| lent(run, event)).collect();
+    let numbers: Vec<usize> = lent.iter().flat_map(|event| [event.kind, event.place, event.other].map(|x| x as usize)).collect();
+    run.begin("day_play", &numbers, &[]);
+    let (count, outcome) = pair.plain.play(&events);
+    let refusal = outcome.err().unwrap_or(0);
     grow(pair);
+    let played = pair.library.play(&lent);
+    run.same("played", &Played { count: count as u64, refusal: refusal as u64, day: pair.wanted }, &played);
+    run.answer(refusal as u64, played.refusal);
+    for (k, event) in events.iter().enumerate().take(count + 1) {
+        run.begin("day_event", &[event.kind as usize, event.place, event.other], &[]);
+        let library = pair.library.event(event.kind, event.place, event.other);
+        run.answer(if k < count { 0 } else { refusal as u64 }, library as u64);
+    }
+}
+
+// An event of a list: its kind is a word there, and one that no byte holds is as unknown as 0.
+fn lent(run: &mut Run, event: &Event) -> proved::Event {
+    let kind = event.kind as u64;
+    let kind = if (1..=2).contains(&kind) { kind } else { run.random.pick(&[kind, kind, 257, 258, 1 << 32 | 1, 1 << 63 | 2, u64::MAX]) };
+    proved::Event { kind, place: event.place as u64, other: event.other as u64 }
 }
 
 fn write(run: &mut Run, pair: &Pair) {
@@ -130,7 +149,7 @@ fn write(run: &mut Run, pair: &Pair) {
     let (mut out, mut theirs) = run.buffers(length);
     run.begin("day_write", &[place, length, at], &[]);
     let plain = pair.plain.write(place, out.part(), at);
-    let library = pair.library.day_write(place, theirs.part(), at);
+    let library = pair.library.write(place, theirs.part(), at);
     run.end(plain, library);
     run.same("the buffer afterwards", &out, &theirs);
 }
@@ -140,15 +159,15 @@ fn finish(run: &mut Run, pair: &mut Pair) {
     let n = pair.plain.roster.len();
     for place in 0..n {
         let _ = pair.plain.event(Event { kind: 1, place, other: 0 });
-        pair.library.day_event(1, place, 0);
+        pair.library.event(1, place, 0);
     }
-    let mut recovery = State::zero();
+    let mut recovery = Recovery::zero();
     recovery.open(pair.plain.kind as u8, &pair.plain.roster);
     let mut order: Vec<usize> = (0..n).collect();
     run.random.shuffle(&mut order);
     for place in order {
         let mut out = [0; 1_031];
-        let end = pair.library.day_write(place, &mut out, 0);
+        let end = pair.library.write(place, &mut out, 0);
         run.begin("offer", &[place], &out[..end.next as usize]);
         let taken = recovery.offer(&out[..end.next as usize]);
         run.answer(0, taken as u64);

@@ -5,7 +5,7 @@ mod records;
 mod recovery;
 
 use crate::plain::Refusal;
-use crate::proved::{End, State};
+use crate::proved::{Day, End};
 use crate::random::Random;
 use std::collections::BTreeMap;
 use std::fmt::Debug;
@@ -103,39 +103,48 @@ pub fn set_of(words: &[u64]) -> u128 {
     words[0] as u128 | (words[1] as u128) << 64
 }
 
-// A struct with random words throughout.
-pub fn noise(random: &mut Random) -> State {
-    let mut state = State::zero();
-    state.head.fill_with(|| random.next());
-    state.serials.fill_with(|| random.next() as u32);
-    state.rows.fill_with(|| random.next());
-    state
+// The row of a place in a table of bytes.
+pub fn row_of(rows: &[u8], place: usize) -> u128 {
+    u128::from_le_bytes(rows[16 * place..][..16].try_into().expect("16 bytes"))
 }
 
-// What the struct has to be after an opening.
-pub fn opened(kind: u8, list: &[u32]) -> State {
-    let mut state = State::zero();
-    (state.head[0], state.head[1]) = (kind as u64, list.len() as u64);
-    state.serials[..list.len()].copy_from_slice(list);
-    state
+pub fn put_row(rows: &mut [u8], place: usize, row: u128) {
+    rows[16 * place..][..16].copy_from_slice(&row.to_le_bytes());
 }
 
-// A struct that no call has made: words that count as others, and bits off the roster. Its first n serials stay those of a group.
-pub fn garbled(random: &mut Random, kind: u8, list: &[u32]) -> State {
-    let mut state = noise(random);
+// The parts that a recovery and a day both have, with random words and bytes throughout.
+pub fn noise(random: &mut Random) -> Day {
+    let mut parts = Day::zero();
+    parts.head.fill_with(|| random.next());
+    parts.serials.fill_with(|| random.next() as u32);
+    parts.rows.copy_from_slice(&random.bytes(2_048));
+    parts
+}
+
+// What they have to be after an opening.
+pub fn opened(kind: u8, list: &[u32]) -> Day {
+    let mut parts = Day::zero();
+    (parts.head[0], parts.head[1]) = (kind as u64, list.len() as u64);
+    parts.serials[..list.len()].copy_from_slice(list);
+    parts
+}
+
+// Parts that no call has made: words that count as others, and bits off the roster. The first n serials stay those of a group.
+pub fn garbled(random: &mut Random, kind: u8, list: &[u32]) -> Day {
+    let mut parts = noise(random);
     let n = list.len();
-    state.head[0] = if kind == 2 { 2 } else { random.pick(&[0, 1, 3, 258, 1 << 32 | 2, u64::MAX]) };
-    state.head[1] = n as u64;
+    parts.head[0] = if kind == 2 { 2 } else { random.pick(&[0, 1, 3, 258, 1 << 32 | 2, u64::MAX]) };
+    parts.head[1] = n as u64;
     if random.chance(20) || n == 128 {
-        state.head[1] = random.pick(&[n as u64, n as u64, 0, 128, 129, 1 << 32 | n as u64, u64::MAX]);
+        parts.head[1] = random.pick(&[n as u64, n as u64, 0, 128, 129, 1 << 32 | n as u64, u64::MAX]);
     }
-    state.serials[..n].copy_from_slice(list);
+    parts.serials[..n].copy_from_slice(list);
     let density = random.below(4);
     for p in 0..128 {
         let set = (0..density).fold(random.bits(), |set, _| set & random.bits());
-        state.rows[2 * p..2 * p + 2].copy_from_slice(&words(if random.chance(50) { 0 } else { set }));
+        put_row(&mut parts.rows, p, if random.chance(50) { 0 } else { set });
     }
-    state
+    parts
 }
 
 pub fn run(seed: u64, calls: u64) {

@@ -1,17 +1,23 @@
 // Lists of calls on a recovery.
-use super::{Run, garbled, list_length, noise, opened, set_of, words};
+use super::{Run, garbled, list_length, noise, opened, put_row, row_of, set_of, words};
 use crate::make::{self, Group};
 use crate::plain::Kind;
 use crate::plain::recovery::{Answer, Offer, Recovery, Showing};
 use crate::plain::set::{Set, below, members};
-use crate::proved::State;
+use crate::proved;
 
 // The library's recovery, what it has to be, and the plain one.
 struct Pair {
-    library: State,
-    wanted: State,
+    library: proved::Recovery,
+    wanted: proved::Recovery,
     plain: Recovery,
     group: Group,
+    // it was opened, and not made up
+    opened: bool,
+}
+
+fn with_mourned(parts: proved::Day, mourned: Set) -> proved::Recovery {
+    proved::Recovery { head: parts.head, mourned: words(mourned), serials: parts.serials, rows: parts.rows }
 }
 
 pub fn list(run: &mut Run) {
@@ -40,43 +46,53 @@ pub fn list(run: &mut Run) {
 // An opening that is refused often.
 fn try_open(run: &mut Run) {
     let (kind, list) = (make::kind(&mut run.random), make::list(&mut run.random));
-    let mut library = noise(&mut run.random);
+    let mut library = with_mourned(noise(&mut run.random), run.random.bits());
     let before = library.clone();
     run.begin("open", &[kind as usize, list.len()], &[]);
     let plain = Recovery::open(kind, &list);
     let code = library.open(kind, &list);
     run.answer(plain.as_ref().map_or_else(|refusal| *refusal, |_| 0) as u64, code as u64);
-    run.same("the recovery afterwards", &if plain.is_ok() { opened(kind, &list) } else { before }, &library);
+    run.same("the recovery afterwards", &if plain.is_ok() { with_mourned(opened(kind, &list), 0) } else { before }, &library);
 }
 
 fn open(run: &mut Run, group: Group) -> Pair {
-    let mut library = noise(&mut run.random);
+    let mut library = with_mourned(noise(&mut run.random), run.random.bits());
     run.begin("open", &[group.kind as usize, group.roster.len()], &[]);
     let code = library.open(group.kind as u8, &group.roster);
     run.answer(0, code as u64);
-    let wanted = opened(group.kind as u8, &group.roster);
+    let wanted = with_mourned(opened(group.kind as u8, &group.roster), 0);
     run.same("the recovery afterwards", &wanted, &library);
     let plain = Recovery::open(group.kind as u8, &group.roster).expect("a roster");
-    Pair { library, wanted, plain, group }
+    Pair { library, wanted, plain, group, opened: true }
 }
 
-// A recovery that no call has made, and the plain one that it stands for.
+// A recovery that no call has made, and the plain one that it stands for: the rows of those that are back, as far as the roster
+// goes, and whatever is kept as the mourned set.
 fn unmade(run: &mut Run, group: Group) -> Pair {
-    let library = garbled(&mut run.random, group.kind as u8, &group.roster);
-    let n = library.head[1].min(128) as usize;
-    let mut plain = Recovery::new(if library.head[0] == 2 { Kind::Short } else { Kind::Full }, &library.serials[..n]);
-    plain.returned = set_of(&library.head[2..]) & below(n);
-    for p in members(plain.returned) {
-        plain.rows[p] = set_of(&library.rows[2 * p..]) & below(n);
-        plain.mourned |= plain.rows[p];
-    }
-    Pair { wanted: library.clone(), library, plain, group }
+    let parts = garbled(&mut run.random, group.kind as u8, &group.roster);
+    let n = parts.head[1].min(128) as usize;
+    let mut plain = Recovery::new(if parts.head[0] == 2 { Kind::Short } else { Kind::Full }, &parts.serials[..n]);
+    plain.returned = set_of(&parts.head[2..]) & below(n);
+    members(plain.returned).for_each(|p| plain.rows[p] = row_of(&parts.rows, p) & below(n));
+    let (named, some) = (in_rows(&plain), run.random.bits() & run.random.bits());
+    plain.mourned = run.random.pick(&[named, named | some, named & some, some, 0]);
+    let library = with_mourned(parts, plain.mourned);
+    Pair { wanted: library.clone(), library, plain, group, opened: false }
+}
+
+// All that stand in a row.
+fn in_rows(plain: &Recovery) -> Set {
+    plain.rows.iter().fold(0, |all, row| all | row)
 }
 
 fn offer(run: &mut Run, pair: &mut Pair) {
     let bytes = make::offer(&mut run.random, &pair.group);
     run.begin("offer", &[], &bytes);
-    let before = pair.plain.returned;
+    let (back, kept) = (pair.plain.returned, pair.plain.mourned);
+    if !pair.opened {
+        // a record is judged by the rows, where the plain one may look at the mourned set first
+        pair.plain.mourned = in_rows(&pair.plain);
+    }
     let plain = match pair.plain.offer(&bytes) {
         Ok(Offer::Taken) => 0,
         Ok(Offer::Repeated) => 32,
@@ -84,11 +100,14 @@ fn offer(run: &mut Run, pair: &mut Pair) {
     };
     let library = pair.library.offer(&bytes);
     run.answer(plain as u64, library as u64);
-    for own in members(pair.plain.returned & !before) {
-        let back = words(set_of(&pair.wanted.head[2..]) | 1 << own);
-        pair.wanted.head[2..].copy_from_slice(&back);
-        pair.wanted.rows[2 * own..2 * own + 2].copy_from_slice(&words(pair.plain.rows[own]));
+    let taken = pair.plain.returned & !back;
+    if !pair.opened {
+        pair.plain.mourned = members(taken).fold(kept, |all, own| all | pair.plain.rows[own]);
     }
+    let returned = words(set_of(&pair.wanted.head[2..]) | taken);
+    pair.wanted.head[2..].copy_from_slice(&returned);
+    pair.wanted.mourned = words(pair.plain.mourned);
+    members(taken).for_each(|own| put_row(&mut pair.wanted.rows, own, pair.plain.rows[own]));
 }
 
 fn ask_one(run: &mut Run, pair: &Pair, place: usize) {
@@ -123,14 +142,22 @@ fn sets(run: &mut Run, pair: &Pair) {
     let (mut unmourned, mut absent) = (noise, noise);
     run.begin("unmourned", &[], &[]);
     pair.library.unmourned(&mut unmourned);
-    run.same("set", &words(pair.plain.unmourned()), &unmourned);
+    a_set(run, pair.plain.unmourned(), unmourned);
     run.begin("unmourned_absent", &[], &[]);
     pair.library.unmourned_absent(&mut absent);
-    run.same("set", &words(pair.plain.unmourned_absent()), &absent);
+    a_set(run, pair.plain.unmourned_absent(), absent);
     run.begin("unmourned_count", &[], &[]);
-    run.same("count", &pair.plain.unmourned_count(), &pair.library.unmourned_count());
+    let (plain, library) = (pair.plain.unmourned_count(), pair.library.unmourned_count());
+    run.same("count", &plain, &library);
+    run.answer((plain == 0) as u64, (library == 0) as u64);
     run.begin("settled", &[], &[]);
     run.answer(pair.plain.settled() as u64, pair.library.settled() as u64);
+}
+
+// Two words of places, counted by whether there is none.
+fn a_set(run: &mut Run, plain: Set, library: [u64; 2]) {
+    run.same("set", &words(plain), &library);
+    run.answer((plain == 0) as u64, (library == [0, 0]) as u64);
 }
 
 fn show(run: &mut Run, pair: &Pair) {
@@ -146,7 +173,10 @@ fn show(run: &mut Run, pair: &Pair) {
     let (mut second, mut their_second) = run.buffers(lengths[1]);
     run.begin("show", &[place, lengths[0], lengths[1]], &[]);
     let plain = match pair.plain.show(place, first.part(), second.part()) {
-        Ok(Showing::Shown) => 0,
+        Ok(Showing::Shown) => {
+            as_they_stand(pair, first.part(), second.part());
+            0
+        }
         Ok(Showing::Decided) => 36,
         Err(refusal) => refusal,
     };
@@ -154,6 +184,21 @@ fn show(run: &mut Run, pair: &Pair) {
     run.answer(plain as u64, library as u64);
     run.same("the first buffer afterwards", &first, &their_first);
     run.same("the second buffer afterwards", &second, &their_second);
+}
+
+// Where no call has made the recovery, its rows are laid as they stand, those of absent places and bits off the roster too. The
+// row that differs is the lowest blocker's.
+fn as_they_stand(pair: &Pair, first: &mut [u8], second: &mut [u8]) {
+    if pair.opened {
+        return;
+    }
+    for place in 0..pair.plain.roster.len() {
+        let row = row_of(&pair.wanted.rows, place);
+        if row_of(first, place) == row_of(second, place) {
+            put_row(second, place, row);
+        }
+        put_row(first, place, row);
+    }
 }
 
 // Rows that fit mostly, but for a bit here and there: the recorded ones, those shown, the true ones, or noise.

@@ -125,12 +125,6 @@ impl Recovery {
         if place >= self.roster.len() { Err(12) } else { Ok(self.answer(place, self.mourned)) }
     }
 
-    // The same answer with nothing but the rows to go by, as the library has it.
-    pub fn ask_from_rows(&self, place: usize) -> Result<Answer, Refusal> {
-        let mourned = self.rows.iter().fold(0, |all, row| all | row);
-        if place >= self.roster.len() { Err(12) } else { Ok(self.answer(place, mourned)) }
-    }
-
     pub fn find(&self, serial: u32) -> Option<usize> {
         self.roster.iter().position(|&x| x == serial)
     }
@@ -174,16 +168,11 @@ impl Recovery {
 
     pub fn check(&self, history: &[u8]) -> Result<bool, Refusal> {
         let n = self.roster.len();
-        let bytes = history.get(..16 * n).ok_or(13)?;
-        let mut rows = [0; 128];
-        for (row, part) in rows.iter_mut().zip(bytes.chunks_exact(16)) {
-            *row = Set::from_le_bytes(part.try_into().expect("16 bytes"));
-        }
-        let rows = &rows[..n];
-        if rows.iter().any(|row| row & !below(n) != 0) {
+        let rows = Lent(history.get(..16 * n).ok_or(13)?.as_chunks().0);
+        if (0..n).any(|p| rows.row(p) & !below(n) != 0) {
             return Err(15);
         }
-        Ok(members(self.returned).all(|p| rows[p] == self.rows[p]) && is_history(self.kind, rows))
+        Ok(members(self.returned).all(|p| rows.row(p) == self.rows[p]) && rows.is_history(self.kind))
     }
 
     pub fn write(&self, place: usize, out: &mut [u8], at: usize) -> Result<usize, Refusal> {
@@ -197,32 +186,58 @@ impl Recovery {
     }
 }
 
-// Whether rows without a place off the roster are a history.
-fn is_history(kind: Kind, rows: &[Set]) -> bool {
-    match kind {
-        // closed rows have no circle where nobody is in its own
-        Kind::Full => rows.iter().enumerate().all(|(p, &row)| !has(row, p) && members(row).all(|m| rows[m] & !row == 0)),
-        Kind::Short => {
-            let mut seen = 0;
-            (0..rows.len()).all(|p| has(seen, p) || no_circle(rows, p, &mut seen, 0))
-        }
-    }
-}
+// The rows of a lent history, where they stand.
+struct Lent<'a>(&'a [[u8; 16]]);
 
-// Goes down from a place that was not seen, over those not seen, and stops at one that stands on the path to itself.
-fn no_circle(rows: &[Set], place: usize, seen: &mut Set, path: Set) -> bool {
-    let path = path | 1 << place;
-    *seen |= 1 << place;
-    if rows[place] & path != 0 {
-        return false;
+impl Lent<'_> {
+    fn row(&self, place: usize) -> Set {
+        Set::from_le_bytes(self.0[place])
     }
-    loop {
-        let left = rows[place] & !*seen;
-        if left == 0 {
-            return true;
+
+    // Whether they are a history, if none has a place off the roster.
+    fn is_history(&self, kind: Kind) -> bool {
+        let mut places = 0..self.0.len();
+        match kind {
+            // closed rows have no circle where nobody is in its own
+            Kind::Full => places.all(|p| !has(self.row(p), p) && self.is_closed(self.row(p))),
+            Kind::Short => {
+                let mut seen = 0;
+                places.all(|p| has(seen, p) || self.no_circle(p, &mut seen, 0))
+            }
         }
-        if !no_circle(rows, left.trailing_zeros() as usize, seen, path) {
+    }
+
+    // Whether a row holds the rows of its members. What stands in the row of a member needs no look: that row is looked at too, so its
+    // own members' rows lie in it, or the history is refused for it.
+    fn is_closed(&self, row: Set) -> bool {
+        let mut left = row;
+        while left != 0 {
+            let member = left.trailing_zeros() as usize;
+            let theirs = self.row(member);
+            if theirs & !row != 0 {
+                return false;
+            }
+            left &= !(theirs | 1 << member);
+        }
+        true
+    }
+
+    // Goes down from a place that was not seen, over those not seen, and stops at one that stands on the path to itself.
+    fn no_circle(&self, place: usize, seen: &mut Set, path: Set) -> bool {
+        let row = self.row(place);
+        let path = path | 1 << place;
+        *seen |= 1 << place;
+        if row & path != 0 {
             return false;
+        }
+        loop {
+            let left = row & !*seen;
+            if left == 0 {
+                return true;
+            }
+            if !self.no_circle(left.trailing_zeros() as usize, seen, path) {
+                return false;
+            }
         }
     }
 }

@@ -53,7 +53,6 @@ pub fn table() -> u64 {
         }
         for &(controller, wanted) in *answers {
             assert_eq!(r.ask(controller - 1), Ok(wanted), "{name}: {controller}");
-            assert_eq!(r.ask_from_rows(controller - 1), Ok(wanted), "{name}: {controller}");
         }
         assert!(settled.is_none_or(|settled| r.settled() == settled), "{name}");
     }

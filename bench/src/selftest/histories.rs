@@ -89,7 +89,7 @@ fn pile_checks(kind: Kind, pile: &[Option<Set>], all: &[(Vec<Set>, bool)]) -> u6
         } else {
             Open
         };
-        assert_eq!((r.ask(p), r.ask_from_rows(p)), (Ok(wanted), Ok(wanted)), "{kind:?} {pile:?} {p}");
+        assert_eq!(r.ask(p), Ok(wanted), "{kind:?} {pile:?} {p}");
         let (mut a, mut b) = (vec![1; 16 * n], vec![1; 16 * n]);
         assert_eq!(r.show(p, &mut a, &mut b), Ok(if wanted == Open { Showing::Shown } else { Showing::Decided }));
         if wanted == Open {
