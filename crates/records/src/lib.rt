@@ -402,7 +402,7 @@ fn also(had: bool, x: u32, y: u32) -> bool
     had & (x == y)
 }
 
-// Whether the serials from i on are the list's, of those that start at a position.
+// Whether the serials from an entry on are the list's, of those that start at a position.
 fn same_last(bytes: &[u8], at: usize, list: &[u32], from: usize) -> bool
     requires { ⌜ at + length (now list) * 4 ≤ length (now bytes) ⌝ }
     requires { ⌜ from ≤ length (now list) ⌝ }
