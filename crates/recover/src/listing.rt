@@ -25,7 +25,7 @@ fn list_places(out: &mut [u8], used: usize, r: Recovery) -> usize
 }
 
 // The lines of the places and of the whole, or that none was opened: a recovery of no places.
-pub fn list_all(out: &mut [u8], used: usize, r: Recovery) -> usize
+pub(crate) fn list_all(out: &mut [u8], used: usize, r: Recovery) -> usize
     requires { ⌜ used ≤ length (now out) ⌝ }
     requires { ⌜ 64 ≤ length (now out) ⌝ }
     ensures { λ end. ⌜ end ≤ length (now (out .entry)) ⌝ }

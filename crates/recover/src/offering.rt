@@ -82,7 +82,7 @@ fn is_taken(answer: Reply) -> bool {
 }
 
 // Reads record after record to the end of the input, or to the first that cannot be read, and says the reply to each.
-pub fn offer_all(input: &mut [u8], out: &mut [u8]) -> Finished
+pub(crate) fn offer_all(input: &mut [u8], out: &mut [u8]) -> Finished
     requires { ⌜ 1031 ≤ length (now input) ⌝ }
     requires { ⌜ 64 ≤ length (now out) ⌝ }
     ensures { λ r. ⌜ r .used ≤ length (now (out .entry)) ⌝ }

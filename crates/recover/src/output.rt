@@ -12,7 +12,7 @@ use replies::Reply;
 use rosters::Serial;
 
 // Writes out what is gathered.
-pub fn flush(out: &[u8], used: usize)
+pub(crate) fn flush(out: &[u8], used: usize)
     requires { ⌜ used ≤ length (now out) ⌝ }
 {
     io::write_all(STDOUT_FILENO, &out[..used]);
@@ -42,7 +42,7 @@ fn end_of(laid: Writing) -> usize
     }
 }
 
-pub fn say_record(out: &mut [u8], used: usize, number: u64, answer: Reply) -> usize
+pub(crate) fn say_record(out: &mut [u8], used: usize, number: u64, answer: Reply) -> usize
     requires { ⌜ used ≤ length (now out) ⌝ }
     requires { ⌜ 64 ≤ length (now out) ⌝ }
     ensures { λ r. ⌜ Said (recordLine number answer) used (now (out .entry)) (now (out .exit)) r ⌝ }
@@ -51,7 +51,7 @@ pub fn say_record(out: &mut [u8], used: usize, number: u64, answer: Reply) -> us
     end_of(lines::put_record(out, at, number, answer))
 }
 
-pub fn say_place(out: &mut [u8], used: usize, serial: Serial, answer: Asked) -> usize
+pub(crate) fn say_place(out: &mut [u8], used: usize, serial: Serial, answer: Asked) -> usize
     requires { ⌜ used ≤ length (now out) ⌝ }
     requires { ⌜ 64 ≤ length (now out) ⌝ }
     ensures { λ r. ⌜ Said (placeLine (serial .0) answer) used (now (out .entry)) (now (out .exit)) r ⌝ }
@@ -60,7 +60,7 @@ pub fn say_place(out: &mut [u8], used: usize, serial: Serial, answer: Asked) -> 
     end_of(lines::put_place(out, at, serial, answer))
 }
 
-pub fn say_whole(out: &mut [u8], used: usize, settled: bool) -> usize
+pub(crate) fn say_whole(out: &mut [u8], used: usize, settled: bool) -> usize
     requires { ⌜ used ≤ length (now out) ⌝ }
     requires { ⌜ 64 ≤ length (now out) ⌝ }
     ensures { λ r. ⌜ Said (wholeLine settled) used (now (out .entry)) (now (out .exit)) r ⌝ }
@@ -69,7 +69,7 @@ pub fn say_whole(out: &mut [u8], used: usize, settled: bool) -> usize
     end_of(lines::put_whole(out, at, settled))
 }
 
-pub fn say_none(out: &mut [u8], used: usize) -> usize
+pub(crate) fn say_none(out: &mut [u8], used: usize) -> usize
     requires { ⌜ used ≤ length (now out) ⌝ }
     requires { ⌜ 64 ≤ length (now out) ⌝ }
     ensures { λ r. ⌜ Said noneLine used (now (out .entry)) (now (out .exit)) r ⌝ }

@@ -68,7 +68,7 @@ fn refill(buf: &mut [u8], w: Window) -> Window
 }
 
 // The window with a whole record in it, even the longest of 1,031 bytes, unless the input ends before that. What was ahead stays ahead.
-pub fn ready(buf: &mut [u8], w: Window) -> Window
+pub(crate) fn ready(buf: &mut [u8], w: Window) -> Window
     requires { ⌜ Inside w (now buf) ⌝ }
     requires { ⌜ 1031 ≤ length (now buf) ⌝ }
     ensures { λ r. ⌜ Inside r (now (buf .exit)) ⌝ }
