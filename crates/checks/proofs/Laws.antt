@@ -9,11 +9,11 @@ use native.Mathlib.Numerals.{add-one}
 use native.Mathlib.Decide.{ℕ-discrete}
 use lib.Dec.{leb, ltb, eqb}
 use borrow.Author.Tests.{ltb-true, ltb-false, lt-ltb, le-leb, lt-leb, ne-eqb}
-use Rattle.places.specs.Sets.{Places, below, intersection, difference, without, any, all, subset, same}
+use Rattle.places.specs.Sets.{Places, nothing, below, union, intersection, difference, without, any, all, subset, same}
 use Rattle.places.specs.PlaceSets.{has, kept}
 use Rattle.places.specs.declared.PlaceSet.{PlaceSet}
 use Rattle.places.proofs.Booleans.{clash, is-false, both-ways, and-intro, and-left, and-right}
-use Rattle.places.proofs.Tests.{any-intro, all-elim, all-intro, subset-elim, subset-intro, same-elim, same-intro}
+use Rattle.places.proofs.Tests.{any-elim, any-intro, all-elim, all-intro, subset-elim, subset-intro, same-elim, same-intro}
 use Rattle.rows.specs.Rows.{rowAt, rowsOf, rowIn, historyIn}
 use Rattle.rows.proofs.Laws.{has-row}
 use Rattle.histories.specs.declared.Kind.{Kind}
@@ -24,14 +24,6 @@ use Rattle.answers.specs.Views.{size, acceptedIn}
 use Rattle.checks.specs.Checks.{offRoster}
 
 -- ---- loops that end at the first place where a test fails
-
-pub any-start : (S : Places) → any 0 S ≡ false
-unfolding any
-any-start S = refl
-
-pub any-next : (p : ℕ) (S : Places) → S p ≡ false → any p S ≡ false → any (p + 1) S ≡ false
-unfolding any
-any-next p S e h = rw (add-one, e) h
 
 pub all-start : (S : Places) → all 0 S ≡ true
 unfolding all
@@ -89,15 +81,51 @@ row-off n S row roster off e er eb eo h =
     go q m true e = rw (e, lt-ltb q 128 m, lt-leb n q (ltb-true q n e)) (and-false (S q))
     go q m false e = rw (e, le-leb n q (ltb-false q n e)) (and-true (S q))
 
-pub off-found : (count n p : ℕ) (b : List ℕ) → n ≡ size count → p < n → any 128 (λ q. leb n q && historyIn n b p q) ≡ true
-    → true ≡ offRoster (size count) (historyIn (size count) b)
-unfolding offRoster
-off-found count n p b s l e = rw (← s) (sym (any-intro n (λ p. any 128 (λ q. leb n q && historyIn n b p q)) p l e))
+-- the places in the rows passed
 
-pub off-none : (count n p : ℕ) (b : List ℕ) → n ≡ size count → p ≤ n → n ≤ p → any p (λ p. any 128 (λ q. leb n q && historyIn n b p q)) ≡ false
-    → false ≡ offRoster (size count) (historyIn (size count) b)
+pub named-start : (s : PlaceSet) (H : History) → has s ≡ nothing → has s ≡ (λ q. any 0 (λ p. H p q))
+unfolding any
+named-start s H e = e
+
+pub named-next : (p : ℕ) (H : History) (s row t : PlaceSet) → has s ≡ (λ q. any p (λ i. H i q)) → has row ≡ H p
+    → has t ≡ union (has row) (has s) → has t ≡ (λ q. any (p + 1) (λ i. H i q))
+unfolding any
+named-next p H s row t es er e = rw add-one (e ∙ ap₂ union er es)
+
+named-swap : (n : ℕ) (H : History) → any 128 (λ q. leb n q && any n (λ p. H p q)) ≡ any n (λ p. any 128 (λ q. leb n q && H p q))
+named-swap n H = both-ways _ _ there back
+  where
+    there : any 128 (λ q. leb n q && any n (λ p. H p q)) ≡ true → any n (λ p. any 128 (λ q. leb n q && H p q)) ≡ true
+    there e =
+        let q = any-elim 128 (λ q. leb n q && any n (λ p. H p q)) e in
+        let p = any-elim n (λ p. H p (q .0)) (and-right (leb n (q .0)) (any n (λ p. H p (q .0))) (q .2)) in
+        any-intro
+        n
+        (λ p. any 128 (λ q. leb n q && H p q))
+        (p .0)
+        (p .1)
+        (any-intro 128 (λ q. leb n q && H (p .0) q) (q .0) (q .1) (and-intro (and-left (leb n (q .0)) (any n (λ p. H p (q .0))) (q .2)) (p .2)))
+
+    back : any n (λ p. any 128 (λ q. leb n q && H p q)) ≡ true → any 128 (λ q. leb n q && any n (λ p. H p q)) ≡ true
+    back e =
+        let p = any-elim n (λ p. any 128 (λ q. leb n q && H p q)) e in
+        let q = any-elim 128 (λ q. leb n q && H (p .0) q) (p .2) in
+        any-intro
+        128
+        (λ q. leb n q && any n (λ p. H p q))
+        (q .0)
+        (q .1)
+        (and-intro
+        (and-left (leb n (q .0)) (H (p .0) (q .0)) (q .2))
+        (any-intro n (λ p. H p (q .0)) (p .0) (p .1) (and-right (leb n (q .0)) (H (p .0) (q .0)) (q .2))))
+
+pub named-all : (n p : ℕ) (H : History) (s : PlaceSet) → p ≤ n → n ≤ p → has s ≡ (λ q. any p (λ i. H i q)) → has s ≡ (λ q. any n (λ i. H i q))
+named-all n p H s l m e = let d : p ≡ n = omega arith in rw d at e
+
+pub named-off : (count n : ℕ) (b : List ℕ) (t : Bool) → n ≡ size count → t ≡ any 128 (λ q. leb n q && any n (λ p. historyIn n b p q))
+    → t ≡ offRoster (size count) (historyIn (size count) b)
 unfolding offRoster
-off-none count n p b s l m e = let q : p ≡ n = omega arith in rw (← s) (sym (rw q at e))
+named-off count n b t s e = rw (← s) (e ∙ named-swap n (historyIn n b))
 
 -- ---- sets cut to the roster
 

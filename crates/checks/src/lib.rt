@@ -23,17 +23,21 @@ fn lent_row(history: &[u8], p: usize) -> PlaceSet
     requires { ⌜ p < 128 ⌝ }
     ensures { λ r. ⌜ ((n : ℕ) → p < n → has r ≡ historyIn n (now (history .entry)) p) ⌝ }
 {
-    rows::read(history, 16 * p)
+    rows::read(history, Place(p))
 }
 
-// Whether the row of a place of the roster has a place off it.
-fn row_off_roster(history: &[u8], n: usize, p: usize) -> bool
-    requires { ⌜ (n ≤ 128) × (p < n) ⌝ }
-    ensures { λ r. ⌜ r ≡ any 128 (λ q. leb n q && historyIn n (now (history .entry)) p q) ⌝ }
+// The places that stand in some row.
+fn all_named(history: &[u8], n: usize) -> PlaceSet
+    requires { ⌜ n ≤ 128 ⌝ }
+    ensures { λ r. ⌜ has r ≡ (λ q. any n (λ p. historyIn n (now (history .entry)) p q)) ⌝ }
 {
-    let row = lent_row(history, p);
-    let off = places::difference(row, places::below(n));
-    !places::is_empty(off)
+    let mut named = places::empty();
+    let mut p = 0;
+    while p < n {
+        named = places::union(lent_row(history, p), named);
+        p += 1;
+    }
+    named
 }
 
 // Whether some row has a place off the roster.
@@ -41,14 +45,8 @@ pub fn off_roster(history: &[u8], count: usize) -> bool
     ensures { λ r. ⌜ r ≡ offRoster (size count) (historyIn (size count) (now (history .entry))) ⌝ }
 {
     let n = answers::size(count);
-    let mut p = 0;
-    while p < n {
-        if row_off_roster(history, n, p) {
-            return true;
-        }
-        p += 1;
-    }
-    false
+    let off = places::difference(all_named(history, n), places::below(n));
+    !places::is_empty(off)
 }
 
 // Whether the lent row of p is the recorded one as far as the roster goes.

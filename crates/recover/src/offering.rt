@@ -129,8 +129,10 @@ pub(crate) fn offer_all(input: &mut [u8], out: &mut [u8]) -> Finished
             x,
         );
         used = output::say_record(out, used, number, answer);
+        // a recovery changes hands only where it changes
         if is_taken(answer) {
-            recovery = recovery::keep(recovery, x.own, x.mourned);
+            let offered = recovery::offer_read(recovery, &input[..have], x);
+            recovery = offered.recovery;
         }
         w = window::past(w, x.next);
     }

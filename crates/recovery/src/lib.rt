@@ -132,7 +132,7 @@ pub fn open(kind: u8, list: &[u32]) -> Opened
 }
 
 // The recovery with the record of a place, as taking it leaves it.
-pub fn keep(r: Recovery, own: Place, mourned: PlaceSet) -> Recovery
+fn keep(r: Recovery, own: Place, mourned: PlaceSet) -> Recovery
     ensures { λ s. ⌜ s ≡ keeping r (own .0) (has mourned) ⌝ }
 {
     let mut next = r;
@@ -171,8 +171,8 @@ fn apply(r: Recovery, own: Place, mourned: PlaceSet, answer: Reply) -> Offered
     }
 }
 
-// A lone record that was read.
-fn offer_read(r: Recovery, bytes: &[u8], x: Record) -> Offered
+// Offers a record that was read from some bytes: 9, repeated or 10, 11, or taken.
+pub fn offer_read(r: Recovery, bytes: &[u8], x: Record) -> Offered
     ensures { λ s. ⌜ s ≡ answered r (x .own .0) (has (x .mourned)) (judgement (r .kind) (r .count) (r .serials) (has (r .returned)) (r .rows) (now (bytes .entry)) x) ⌝ }
 {
     let kind = r.kind;

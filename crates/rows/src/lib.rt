@@ -62,16 +62,15 @@ fn read_word(bytes: &[u8]) -> u64
     (from_two * 256 + wide(bytes[1])) * 256 + wide(bytes[0])
 }
 
-// The row whose 16 bytes stand from a position on: empty where they are not all there.
-pub fn read(bytes: &[u8], at: usize) -> PlaceSet
-    ensures { λ r. ⌜ has r ≡ rowIn (now (bytes .entry)) at ⌝ }
+// The row of a place among rows of 16 bytes each: empty where its bytes are not all there.
+pub fn read(bytes: &[u8], place: Place) -> PlaceSet
+    ensures { λ r. ⌜ has r ≡ rowIn (now (bytes .entry)) (16 * (place .0)) ⌝ }
 {
-    if bytes.len() < 16 {
+    let p = place.0;
+    if bytes.len() / 16 <= p {
         return places::empty();
     }
-    if bytes.len() - 16 < at {
-        return places::empty();
-    }
+    let at = 16 * p;
     let half = at + 8;
     PlaceSet {
         low: read_word(&bytes[at..]),
@@ -94,7 +93,7 @@ fn row_of(table: &[u8], p: usize) -> PlaceSet
     if 128 <= p {
         return PlaceSet { low: 0, high: 0 };
     }
-    read(table, 16 * p)
+    read(table, Place(p))
 }
 
 // The row of a place: empty from 128 on.

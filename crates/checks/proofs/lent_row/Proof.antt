@@ -4,9 +4,6 @@ use Rattle.checks.proofs.Laws.{lent-is}
 use Rattle.checks.proofs.lent_row.Statement.{statement}
 use Rattle.checks.proofs.lent_row.Tie as tie
 
-mul-read : tie.Need-mul-read
-mul-read c = search needs
-
 read-requires : tie.Need-read-requires
 read-requires c κs = search needs
 
@@ -14,4 +11,4 @@ returns : tie.Need-returns
 returns c n l = lent-is n _ _ _ l (c .read .ensures)
 
 pub lent-row-spec : {M : Type 1} → statement M
-lent-row-spec = tie.close (tie.spec mul-read read-requires returns)
+lent-row-spec = tie.close (tie.spec read-requires returns)

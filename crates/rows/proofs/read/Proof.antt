@@ -12,14 +12,8 @@ empty-requires c κs = search needs
 returns : tie.Need-returns
 returns c = c .empty .ensures ∙ sym (row-out _ _ (omega arith))
 
-sub-if2 : tie.Need-sub-if2
-sub-if2 c = search needs
-
-empty-requires-2 : tie.Need-empty-requires-2
-empty-requires-2 c κs = search needs
-
-returns-2 : tie.Need-returns-2
-returns-2 c = c .empty2 .ensures ∙ sym (row-out _ _ (omega arith))
+mul-at : tie.Need-mul-at
+mul-at c = search needs
 
 add-half : tie.Need-add-half
 add-half c = search needs
@@ -48,8 +42,8 @@ part-read-word-end-2 c = search needs
 read-word-requires-2 : tie.Need-read-word-requires-2
 read-word-requires-2 c κs = search needs
 
-returns-3 : tie.Need-returns-3
-returns-3 c = row-fits _ _ _ (omega arith) (c .before .before .read-word .ensures) (c .read-word2 .ensures)
+returns-2 : tie.Need-returns-2
+returns-2 c = row-fits _ _ _ (omega arith) (c .before .before .read-word .ensures) (c .read-word2 .ensures)
 
 pub read-spec : {M : Type 1} → statement M
 read-spec =
@@ -57,9 +51,7 @@ read-spec =
     (tie.spec
     empty-requires
     returns
-    sub-if2
-    empty-requires-2
-    returns-2
+    mul-at
     add-half
     sub-read-word
     part-read-word-start
@@ -69,4 +61,4 @@ read-spec =
     part-read-word-start-2
     part-read-word-end-2
     read-word-requires-2
-    returns-3)
+    returns-2)

@@ -10,9 +10,6 @@ use Rattle.rows.proofs.row_of.Tie as tie
 returns : tie.Need-returns
 returns c = row-at _ _ _ (search needs) (has-none _ refl refl ∙ sym (rows-past _ _ (search needs) (c .if1 .taken)))
 
-mul-read : tie.Need-mul-read
-mul-read c = search needs
-
 read-requires : tie.Need-read-requires
 read-requires c κs = search needs
 
@@ -21,4 +18,4 @@ unfolding rowsOf
 returns-2 c = row-at _ _ _ (search needs) (c .read .ensures)
 
 pub row-of-spec : {M : Type 1} → statement M
-row-of-spec = tie.close (tie.spec returns mul-read read-requires returns-2)
+row-of-spec = tie.close (tie.spec returns read-requires returns-2)

@@ -82,8 +82,14 @@ say-record-requires-2 c κs =
 is-taken-requires : tie.Need-is-taken-requires Inv-loop μ-loop
 is-taken-requires c κs = search needs
 
-keep-requires : tie.Need-keep-requires Inv-loop μ-loop
-keep-requires c κs = search needs
+slice-reshare-prefix-offer-read : tie.Need-slice-reshare-prefix-offer-read Inv-loop μ-loop
+slice-reshare-prefix-offer-read c = c .before .before .before .before .before .before .before .before .before .before .before .before .before .before .before .before .before .before .before .before .before .before .before .before .before .before .ready .ensures .0 .1
+
+slice-aggregate-offer-read : tie.Need-slice-aggregate-offer-read Inv-loop μ-loop
+slice-aggregate-offer-read c = sym (length-take-le _ _ (c .before .before .before .before .before .before .before .before .before .before .before .before .before .before .before .before .before .before .before .before .before .before .before .before .before .before .before .ready .ensures .0 .1))
+
+offer-read-requires : tie.Need-offer-read-requires Inv-loop μ-loop
+offer-read-requires c κs = search needs
 
 past-requires : tie.Need-past-requires Inv-loop μ-loop
 past-requires c κs = search needs
@@ -159,7 +165,9 @@ offer-all-spec =
     judge-requires
     say-record-requires-2
     is-taken-requires
-    keep-requires
+    slice-reshare-prefix-offer-read
+    slice-aggregate-offer-read
+    offer-read-requires
     past-requires
     loop-less
     loop-again
