@@ -203,7 +203,7 @@ fn check(c: Case, r: Recovery, pile: Pile, t: Tally, m: u32) -> Tally {
 }
 
 // Checks every so many-th matrix of the roster.
-pub fn checks(c: Case, r: Recovery, pile: Pile, tally: Tally, from: u32, stride: u32) -> Tally
+pub(crate) fn checks(c: Case, r: Recovery, pile: Pile, tally: Tally, from: u32, stride: u32) -> Tally
     requires { ⌜ (0 < stride) × (stride ≤ 65536) ⌝ }
 {
     let mut t = tally;
@@ -217,7 +217,7 @@ pub fn checks(c: Case, r: Recovery, pile: Pile, tally: Tally, from: u32, stride:
 }
 
 // Checks every so many-th listed history, with the recorded rows put in.
-pub fn listed(
+pub(crate) fn listed(
     list: &[u32],
     c: Case,
     r: Recovery,
