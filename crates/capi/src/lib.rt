@@ -450,7 +450,7 @@ fn write_back(
         return Writing::Refused(14);
     }
     let row = answers::recorded(rows, returned, h.count, place);
-    records::write(kind, place, &serials[..n], row, out, at)
+    writes::write(kind, place, &serials[..n], row, out, at)
 }
 
 // Writes the record of a returned place into a lent buffer from a position on: 12, 14, 13, or 0 and where it ends.
@@ -556,8 +556,8 @@ pub extern "C" fn gm_write_record(
         high: mourned[1],
     };
     match kind {
-        1 => end_of(records::write(Kind::Full, Place(own), roster, set, out, at)),
-        2 => end_of(records::write(Kind::Short, Place(own), roster, set, out, at)),
+        1 => end_of(writes::write(Kind::Full, Place(own), roster, set, out, at)),
+        2 => end_of(writes::write(Kind::Short, Place(own), roster, set, out, at)),
         0 | 3..=255 => End {
             refusal: 2,
             next: 0,

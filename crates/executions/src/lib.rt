@@ -337,5 +337,5 @@ pub fn write(d: Day, place: Place, out: &mut [u8], at: usize) -> Writing
     }
     let mourned = heard(&d.rows, count, place);
     let serials = d.serials;
-    records::write(kind, place, &serials[..n], mourned, out, at)
+    writes::write(kind, place, &serials[..n], mourned, out, at)
 }

@@ -6,7 +6,6 @@ pub mod Heads
 pub mod Mournings
 pub mod Readings
 pub mod Lists
-pub mod Laying
 pub mod Serials
 pub mod Layouts
 pub mod Trips

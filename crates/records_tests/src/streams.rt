@@ -75,11 +75,11 @@ pub fn longest() {
     let all = places::below(128);
     say::writing(
         b"the longest record, one byte short",
-        records::write(Kind::Full, Place(127), &list, all, &mut out, 1),
+        writes::write(Kind::Full, Place(127), &list, all, &mut out, 1),
     );
     say::writing(
         b"the longest record",
-        records::write(Kind::Full, Place(127), &list, all, &mut out, 0),
+        writes::write(Kind::Full, Place(127), &list, all, &mut out, 0),
     );
     lone(b"the longest record, lone", &out);
 }
@@ -90,7 +90,7 @@ fn longest_with(name: &[u8], roster: u8, mourned: u8) {
     lists::fill(&mut list, 65536);
     let mut out = [0u8; 1031];
     let all = places::below(128);
-    records::write(Kind::Full, Place(127), &list, all, &mut out, 0);
+    writes::write(Kind::Full, Place(127), &list, all, &mut out, 0);
     out[5] = roster;
     out[518] = mourned;
     lone(name, &out);
@@ -113,7 +113,7 @@ pub fn one_bit() {
     let all = places::below(33);
     say::writing(
         b"a record of 33 serials that differ in one bit",
-        records::write(Kind::Short, Place(32), &list, all, &mut out, 0),
+        writes::write(Kind::Short, Place(32), &list, all, &mut out, 0),
     );
     lone(b"and read again", &out);
 }

@@ -39,7 +39,7 @@ fn write(name: &[u8], own: usize, out: &mut [u8; 40], at: usize) {
     let heard = places::with(places::only(Place(1)), Place(2));
     say::writing(
         name,
-        records::write(Kind::Short, Place(own), &roster, heard, out, at),
+        writes::write(Kind::Short, Place(own), &roster, heard, out, at),
     );
 }
 
@@ -48,7 +48,7 @@ fn write_for(name: &[u8], own: usize, roster: &[u32], out: &mut [u8; 40], at: us
     let heard = places::only(Place(1));
     say::writing(
         name,
-        records::write(Kind::Short, Place(own), roster, heard, out, at),
+        writes::write(Kind::Short, Place(own), roster, heard, out, at),
     );
 }
 
@@ -65,7 +65,7 @@ pub fn back() {
     let mut out = [0xaau8; 40];
     say::writing(
         b"the listing's second, written",
-        records::write(Kind::Short, Place(3), &roster, heard, &mut out, 3),
+        writes::write(Kind::Short, Place(3), &roster, heard, &mut out, 3),
     );
     say::truth(b"the same bytes", same(&out[3..34], bytes));
     say::truth(b"nothing before it", untouched(&out, 0, 3));
@@ -80,7 +80,7 @@ pub fn off_the_roster() {
     let mut out = [0xaau8; 40];
     say::writing(
         b"all places mourned, of four",
-        records::write(Kind::Full, Place(0), &roster, all, &mut out, 0),
+        writes::write(Kind::Full, Place(0), &roster, all, &mut out, 0),
     );
     read_at(b"and read again", &out, 0);
 }
@@ -92,7 +92,7 @@ pub fn of_one() {
     let off = places::only(Place(1));
     say::writing(
         b"place 0 of 1",
-        records::write(Kind::Short, Place(0), &one, off, &mut out, 29),
+        writes::write(Kind::Short, Place(0), &one, off, &mut out, 29),
     );
     say::truth(b"nothing before it", untouched(&out, 0, 29));
     read_at(b"and read again", &out, 29);

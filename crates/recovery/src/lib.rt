@@ -294,7 +294,7 @@ pub fn write(r: Recovery, place: Place, out: &mut [u8], at: usize) -> Writing
     }
     let row = answers::recorded(&r.rows, returned, count, place);
     let serials = r.serials;
-    records::write(kind, place, &serials[..n], row, out, at)
+    writes::write(kind, place, &serials[..n], row, out, at)
 }
 
 // Shows two histories that fit and differ on a place: 12, decided, 13, or both laid down.

@@ -1,8 +1,8 @@
--- `records::kind_byte` meets its contract. Assumes nothing.
+-- `writes::kind_byte` meets its contract. Assumes nothing.
 use borrow.Author.Needs.{needs}
 use Rattle.records.specs.Layout.{kindByte}
-use Rattle.records.proofs.kind_byte.Statement.{statement}
-use Rattle.records.proofs.kind_byte.Tie as tie
+use Rattle.writes.proofs.kind_byte.Statement.{statement}
+use Rattle.writes.proofs.kind_byte.Tie as tie
 
 enum-told : tie.Need-enum-told
 enum-told c = search needs

@@ -1,9 +1,9 @@
--- `records::count_below` meets its contract. Assumes nothing.
+-- `writes::count_below` meets its contract. Assumes nothing.
 use mathlib.Core.Path.{_∙_}
 use borrow.Author.Needs.{needs}
-use Rattle.records.proofs.Laying.{count-on}
-use Rattle.records.proofs.count_below.Statement.{statement}
-use Rattle.records.proofs.count_below.Tie as tie
+use Rattle.writes.proofs.Laying.{count-on}
+use Rattle.writes.proofs.count_below.Statement.{statement}
+use Rattle.writes.proofs.count_below.Tie as tie
 
 below-requires : tie.Need-below-requires
 below-requires c κs = search needs

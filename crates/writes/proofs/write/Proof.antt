@@ -1,4 +1,4 @@
--- `records::write` meets its contract: one law for each answer. Assumes nothing.
+-- `writes::write` meets its contract: one law for each answer. Assumes nothing.
 use mathlib.Core.Path.{_≡_, sym, _∙_}
 use Prim.Native.Nat.{_+_, _*_}
 use native.Mathlib.Omega.{arith}
@@ -6,10 +6,10 @@ use lib.ListN.{length}
 use borrow.Author.Needs.{needs}
 use Rattle.places.specs.PlaceSets.{has}
 use Rattle.places.proofs.Counting.{count-at-most}
 use Rattle.records.specs.Layout.{chosen}
-use Rattle.records.proofs.Laying.{part-long, chosen-count, write-12, write-3, write-13, write-done}
-use Rattle.records.proofs.write.Statement.{statement}
-use Rattle.records.proofs.write.Tie as tie
+use Rattle.writes.proofs.Laying.{part-long, chosen-count, write-12, write-3, write-13, write-done}
+use Rattle.writes.proofs.write.Statement.{statement}
+use Rattle.writes.proofs.write.Tie as tie
 
 returns : tie.Need-returns
 returns c =

@@ -1,11 +1,11 @@
--- `records::put_if` meets its contract. Assumes nothing.
+-- `writes::put_if` meets its contract. Assumes nothing.
 use mathlib.Core.Path.{_≡_, sym}
 use mathlib.Core.Bool.{true, false}
 use borrow.Author.Needs.{needs}
 use borrow.Author.Tests.{not-true, not-false}
-use Rattle.records.proofs.Laying.{front-none, serial-long}
-use Rattle.records.proofs.put_if.Statement.{statement}
-use Rattle.records.proofs.put_if.Tie as tie
+use Rattle.writes.proofs.Laying.{front-none, serial-long}
+use Rattle.writes.proofs.put_if.Statement.{statement}
+use Rattle.writes.proofs.put_if.Tie as tie
 
 returns : tie.Need-returns
 returns c =

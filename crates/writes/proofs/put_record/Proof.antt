@@ -1,9 +1,9 @@
--- `records::put_record` meets its contract: each section makes the front of the buffer longer. Assumes nothing.
+-- `writes::put_record` meets its contract: each section makes the front of the buffer longer. Assumes nothing.
 use borrow.Author.Needs.{needs}
 use Rattle.places.specs.PlaceSets.{has}
-use Rattle.records.proofs.Laying.{record-laid}
-use Rattle.records.proofs.put_record.Statement.{statement}
-use Rattle.records.proofs.put_record.Tie as tie
+use Rattle.writes.proofs.Laying.{record-laid}
+use Rattle.writes.proofs.put_record.Statement.{statement}
+use Rattle.writes.proofs.put_record.Tie as tie
 
 mul-p : tie.Need-mul-p
 mul-p c = search needs

@@ -1,4 +1,4 @@
--- `records::put_serials` meets its contract. The invariant: the bytes of the first i serials stand at the front. Assumes nothing.
+-- `writes::put_serials` meets its contract. The invariant: the bytes of the first i serials stand at the front. Assumes nothing.
 use mathlib.Core.Path.{_≡_, refl, sym, ap, _∙_}
 use mathlib.Core.List.{List}
 use Prim.Native.Nat.{ℕ, _-_, _*_, _≤_, _<_}
@@ -6,11 +6,11 @@ use native.Mathlib.Omega.{arith}
 use lib.ListN.{length, take, getD}
 use lib.Seq.{length-take-le, take-all}
 use borrow.Author.Needs.{needs}
 use Rattle.records.specs.Layout.{serialBytes, serialsBytes}
 use Rattle.records.specs.Parts.{front}
-use Rattle.records.proofs.Laying.{front-none, front-lend, part-long, serials-long, bytes-more}
-use Rattle.records.proofs.put_serials.Statement.{statement}
-use Rattle.records.proofs.put_serials.Tie as tie
+use Rattle.writes.proofs.Laying.{front-none, front-lend, part-long, serials-long, bytes-more}
+use Rattle.writes.proofs.put_serials.Statement.{statement}
+use Rattle.writes.proofs.put_serials.Tie as tie
 
 abbrev Inv-loop : tie.InvT-loop
 Inv-loop out₀ list i₀ out i = (i ≤ length list) × (out ≡ front (serialsBytes (take i list)) out₀) × (length out ≡ length out₀)

@@ -1,15 +1,15 @@
--- `records::put_top` meets its contract. Assumes nothing.
+-- `writes::put_top` meets its contract. Assumes nothing.
 use mathlib.Core.Path.{ap, _∙_}
 use mathlib.Core.List.{_∷_}
 use Prim.Native.Nat.{ℕ}
 use native.Mathlib.Omega.{arith}
 use lib.ListN.{length-set}
 use borrow.Author.Needs.{needs}
 use Rattle.records.specs.Layout.{serialBytes}
 use Rattle.records.specs.Parts.{front}
-use Rattle.records.proofs.Laying.{section-long, section-laid}
-use Rattle.records.proofs.put_top.Statement.{statement}
-use Rattle.records.proofs.put_top.Tie as tie
+use Rattle.writes.proofs.Laying.{section-long, section-laid}
+use Rattle.writes.proofs.put_top.Statement.{statement}
+use Rattle.writes.proofs.put_top.Tie as tie
 
 kind-byte-requires : tie.Need-kind-byte-requires
 kind-byte-requires c κs = search needs

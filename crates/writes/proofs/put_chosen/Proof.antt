@@ -1,4 +1,4 @@
--- `records::put_chosen` meets its contract. The invariant: the bytes of those of the first i that are chosen stand at the front, p of
+-- `writes::put_chosen` meets its contract. The invariant: the bytes of those of the first i that are chosen stand at the front, p of
 -- them. Assumes nothing.
 use mathlib.Core.Path.{_≡_, refl, sym, ap, _∙_}
 use mathlib.Core.List.{List}
@@ -8,11 +8,11 @@ use lib.ListN.{length, take}
 use lib.Seq.{take-all}
 use borrow.Author.Needs.{needs}
 use Rattle.places.specs.PlaceSets.{has}
 use Rattle.records.specs.Layout.{serialsBytes, chosen}
 use Rattle.records.specs.Parts.{front}
-use Rattle.records.proofs.Laying.{front-none, part-long, chosen-four, turn-size, turn-room, turn-laid}
-use Rattle.records.proofs.put_chosen.Statement.{statement}
-use Rattle.records.proofs.put_chosen.Tie as tie
+use Rattle.writes.proofs.Laying.{front-none, part-long, chosen-four, turn-size, turn-room, turn-laid}
+use Rattle.writes.proofs.put_chosen.Statement.{statement}
+use Rattle.writes.proofs.put_chosen.Tie as tie
 
 abbrev Inv-loop : tie.InvT-loop
 Inv-loop out₀ roster set p₀ i₀ out p i =

@@ -1,12 +1,12 @@
--- `records::put_serial` meets its contract: four stores at the front. Assumes nothing.
+-- `writes::put_serial` meets its contract: four stores at the front. Assumes nothing.
 use native.Mathlib.Omega.{arith}
 use lib.ListN.{length-set}
 use borrow.Author.Needs.{needs}
 use Rattle.records.specs.Layout.{serialBytes}
 use Rattle.records.specs.Parts.{front}
-use Rattle.records.proofs.Laying.{four}
-use Rattle.records.proofs.put_serial.Statement.{statement}
-use Rattle.records.proofs.put_serial.Tie as tie
+use Rattle.writes.proofs.Laying.{four}
+use Rattle.writes.proofs.put_serial.Statement.{statement}
+use Rattle.writes.proofs.put_serial.Tie as tie
 
 cast-out : tie.Need-cast-out
 cast-out c = search needs
