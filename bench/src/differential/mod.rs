@@ -4,7 +4,9 @@ mod day;
 mod records;
 mod recovery;
 
+use crate::make;
 use crate::plain::Refusal;
+use crate::plain::set::Set;
 use crate::proved::{Day, End};
 use crate::random::Random;
 use std::collections::BTreeMap;
@@ -59,6 +61,25 @@ impl Run {
         };
         self.same("end", &plain, &library);
         self.answer(plain.refusal, library.refusal);
+    }
+
+    // Writes the record of some place, with room for it or too little.
+    pub fn write(
+        &mut self,
+        name: &'static str,
+        rows: &[Set],
+        plain: impl Fn(usize, &mut [u8], usize) -> Result<usize, Refusal>,
+        library: impl Fn(usize, &mut [u8], usize) -> End,
+    ) {
+        let place = make::place(&mut self.random, rows.len());
+        let named = rows.get(place).map_or(0, |row| row.count_ones() as usize);
+        let size = 7 + 4 * (rows.len() + named);
+        let length = make::length(&mut self.random, size) + self.random.pick(&[0, 0, 5, 30]);
+        let at = make::position(&mut self.random, length, size);
+        let (mut out, mut theirs) = self.buffers(length);
+        self.begin(name, &[place, length, at], &[]);
+        self.end(plain(place, out.part(), at), library(place, theirs.part(), at));
+        self.same("the buffer afterwards", &out, &theirs);
     }
 
     // A buffer of some length with random bytes, and as many on both sides, for each of the two.
