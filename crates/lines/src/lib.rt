@@ -5,7 +5,7 @@ ghost use mathlib.Core.List.{_++_};
 ghost use Prim.Native.Nat.{_+_, _≤_};
 ghost use lib.ListN.{length};
 ghost use Rattle.records.specs.Records.{writtenAt};
-ghost use Rattle.lines.specs.Fronts.{front};
+ghost use Rattle.fronts.specs.Fronts.{front};
 ghost use Rattle.lines.specs.Lines.{ascii, decimal, line, recordLine, placeLine, wholeLine, noneLine};
 use records::Writing;
 use recovery::Asked;

@@ -115,10 +115,6 @@ alikeFrom i b at list = alike (length list - i) b (at + i * 4) list i
 
 -- ---- the writer
 
--- a part of a buffer whose first bytes were laid down, with the others as they were
-unfoldable pub front : List ℕ → List ℕ → List ℕ
-front bytes l = bytes ++ drop (length bytes) l
-
 -- the bytes of the record of the place own with the mourned places M
 abbrev pub recordBytes : Kind → ℕ → List ℕ → Places → List ℕ
 recordBytes k own roster M = layout (record { kind = k; own = own; roster = roster; mourned = M })

@@ -20,43 +20,9 @@ use Rattle.histories.specs.declared.Kind.{Kind}
 use Rattle.records.specs.declared.Writing.the-variants as W
 use Rattle.records.specs.Layout.{kindByte, serialBytes, serialsBytes, chosen, layout}
 use Rattle.records.specs.Records.{unwritten, putAt, writtenAt, written}
-use Rattle.records.specs.Parts.{front, recordBytes}
-
--- ---- the front of a buffer
-
-pub front-none : (l : List ℕ) → l ≡ front [] l
-unfolding front
-front-none l = refl
-
--- m is l with hs laid into its front, and k is the seam
-module _ (hs l m : List ℕ) (k : ℕ) (is : m ≡ front hs l) (seam : length hs ≡ k) where
-  seam-take : take k m ≡ hs
-  unfolding front
-  seam-take = ap (take k) is ∙ take-at hs (drop (length hs) l) k seam
-
-  seam-drop : drop k m ≡ drop (length hs) l
-  unfolding front
-  seam-drop = ap (drop k) is ∙ drop-at hs (drop (length hs) l) k seam
-
-  -- a byte stored at the seam
-  pub front-store : (b : ℕ) → k < length l → set m k b ≡ front (hs ++ (b ∷ [])) l
-  unfolding front
-  front-store b h =
-      let lt : length hs < length l = omega arith in
-      let c : drop (length hs) l ≡ getD l (length hs) 0 ∷ drop (suc (length hs)) l = drop-cons l (length hs) 0 lt in
-      ap (λ (z : List ℕ). set z k b) (is ∙ ap (λ (z : List ℕ). hs ++ z) c) ∙ set-at hs (getD l (length hs) 0) (drop (suc (length hs)) l) b k seam
-      ∙ rw (length-append hs (b ∷ []), add-one (length hs)) (sym (append-assoc hs (b ∷ []) (drop (suc (length hs)) l)))
-
-  -- the part from the seam on, lent to a writer that laid bs into its front
-  pub front-lend : (bs ys : List ℕ) → ys ≡ front bs (take (length m - k) (drop k m)) → putMid k (length m - k) m ys ≡ front (hs ++ bs) l
-  unfolding front
-  front-lend bs ys q =
-      let n : length (drop k m) ≤ length m - k = omega (arith, length-drop k m) in
-      ap (λ (z : List ℕ). take k m ++ (ys ++ z)) (drop-of-length-le (drop k m) n) ∙ ap (λ (z : List ℕ). take k m ++ z) (append-nil ys)
-      ∙ ap (λ (z : List ℕ). z ++ ys) seam-take
-      ∙ ap (λ (z : List ℕ). hs ++ z) (q ∙ ap (λ (z : List ℕ). bs ++ drop (length bs) z) (take-all (length m - k) (drop k m) n ∙ seam-drop)
-      ∙ ap (λ (z : List ℕ). bs ++ z) (drop-drop (length bs) (length hs) l))
-      ∙ rw (length-append hs bs) (sym (append-assoc hs bs (drop (length hs + length bs) l)))
+use Rattle.records.specs.Parts.{recordBytes}
+use Rattle.fronts.specs.Fronts.{front}
+use Rattle.fronts.proofs.Laws.{front-none, front-byte, front-part}
 
 -- how long the part from k on is
 pub part-long : (m : List ℕ) (k : ℕ) → k ≤ length m → length (take (length m - k) (drop k m)) ≡ length m - k
@@ -69,7 +35,7 @@ module _ (out : List ℕ) (b : ℕ) (h : 1 ≤ length out) where
 
   pub section-laid : (bs ys : List ℕ) → ys ≡ front bs (take (length (set out 0 b) - 1) (drop 1 (set out 0 b)))
       → putMid 1 (length (set out 0 b) - 1) (set out 0 b) ys ≡ front (b ∷ bs) out
-  section-laid bs ys q = front-lend (b ∷ []) out (set out 0 b) 1 (front-store [] out out 0 (front-none out) refl b h) refl bs ys q
+  section-laid bs ys q = front-part (b ∷ []) out (set out 0 b) 1 (front-byte [] out out 0 (front-none out) refl b h) refl bs ys q
 
 -- ---- the bytes of serials
 
@@ -164,7 +130,7 @@ module _ (M : Places) (s : List ℕ) (i : ℕ) (h : i < length s) (out₀ out : 
   pub turn-laid : (ys : List ℕ) → ys ≡ front (cond on (serialBytes (getD s i 0)) []) (take (length out - p) (drop p out))
       → putMid p (length out - p) out ys ≡ front (serialsBytes (chosen M (take (i + 1) s))) out₀
   turn-laid ys e =
-      front-lend (serialsBytes (chosen M (take i s))) out₀ out p laid (sym size) (cond on (serialBytes (getD s i 0)) []) ys e
+      front-part (serialsBytes (chosen M (take i s))) out₀ out p laid (sym size) (cond on (serialBytes (getD s i 0)) []) ys e
       ∙ rw (chosen-bytes M s i h, ← is)
 
 -- how many are chosen is how many places of the list are members
@@ -212,9 +178,9 @@ record-laid k own s M n c out m ys zs first second third =
     let a = kindByte k ∷ serialBytes (getD s own 0) in
     let b = length s ∷ serialsBytes s in
     let la : length a ≡ 5 = ap suc (serial-long (getD s own 0)) in
-    let e : putMid 5 (length m - 5) m ys ≡ front (a ++ b) out = front-lend a out m 5 first la b ys second in
+    let e : putMid 5 (length m - 5) m ys ≡ front (a ++ b) out = front-part a out m 5 first la b ys second in
     let lb : length (a ++ b) ≡ 6 + length s * 4 = length-append a b ∙ omega (arith, serials-long s) in
-    front-lend (a ++ b) out (putMid 5 (length m - 5) m ys) (6 + length s * 4) e lb (n ∷ serialsBytes (chosen M s)) zs third
+    front-part (a ++ b) out (putMid 5 (length m - 5) m ys) (6 + length s * 4) e lb (n ∷ serialsBytes (chosen M s)) zs third
     ∙ rw (append-assoc, c)
 
 pub record-long : (k : Kind) (own : ℕ) (s : List ℕ) (M : Places) → length (recordBytes k own s M) ≡ 7 + length s * 4 + length (chosen M s) * 4

@@ -5,7 +5,7 @@ use native.Mathlib.Omega.{arith}
 use lib.ListN.{length, length-set}
 use borrow.Author.Needs.{needs}
 use Rattle.lines.specs.Lines.{decimal}
-use Rattle.lines.specs.Fronts.{front}
+use Rattle.fronts.specs.Fronts.{front}
 use Rattle.lines.proofs.Laws.{Laying, laying-none, laying-more, laying-all}
 use Rattle.lines.proofs.lay_decimal.Statement.{statement}
 use Rattle.lines.proofs.lay_decimal.Tie as tie

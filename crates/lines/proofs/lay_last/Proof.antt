@@ -4,7 +4,7 @@ use native.Mathlib.Omega.{arith}
 use lib.ListN.{length}
 use borrow.Author.Needs.{needs}
 use Rattle.lines.specs.Lines.{line}
-use Rattle.lines.proofs.Laws.{front-byte}
+use Rattle.fronts.proofs.Laws.{front-byte}
 use Rattle.lines.proofs.lay_last.Statement.{statement}
 use Rattle.lines.proofs.lay_last.Tie as tie
 

@@ -6,8 +6,9 @@ use native.Mathlib.Omega.{arith}
 use lib.ListN.{length, length-append}
 use borrow.Author.Needs.{needs}
 use Rattle.lines.specs.Lines.{decimal, line}
-use Rattle.lines.specs.Fronts.{front}
-use Rattle.lines.proofs.Laws.{front-part, line-last}
+use Rattle.fronts.specs.Fronts.{front}
+use Rattle.fronts.proofs.Laws.{front-part}
+use Rattle.lines.proofs.Laws.{line-last}
 use Rattle.lines.proofs.lay_numbered.Statement.{statement}
 use Rattle.lines.proofs.lay_numbered.Tie as tie
 

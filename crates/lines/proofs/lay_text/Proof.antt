@@ -5,8 +5,9 @@ use native.Mathlib.Omega.{arith}
 use lib.ListN.{length, take, length-set}
 use lib.Seq.{take-all}
 use borrow.Author.Needs.{needs}
-use Rattle.lines.specs.Fronts.{front}
-use Rattle.lines.proofs.Laws.{front-none, front-text}
+use Rattle.fronts.specs.Fronts.{front}
+use Rattle.fronts.proofs.Laws.{front-none}
+use Rattle.lines.proofs.Laws.{front-text}
 use Rattle.lines.proofs.lay_text.Statement.{statement}
 use Rattle.lines.proofs.lay_text.Tie as tie
 

@@ -9,8 +9,9 @@ use lib.Seq.{take-all}
 use borrow.Author.Needs.{needs}
 use Rattle.places.specs.PlaceSets.{has}
 use Rattle.records.specs.Layout.{serialsBytes, chosen}
-use Rattle.records.specs.Parts.{front}
-use Rattle.writes.proofs.Laying.{front-none, part-long, chosen-four, turn-size, turn-room, turn-laid}
+use Rattle.fronts.specs.Fronts.{front}
+use Rattle.fronts.proofs.Laws.{front-none}
+use Rattle.writes.proofs.Laying.{part-long, chosen-four, turn-size, turn-room, turn-laid}
 use Rattle.writes.proofs.put_chosen.Statement.{statement}
 use Rattle.writes.proofs.put_chosen.Tie as tie
 

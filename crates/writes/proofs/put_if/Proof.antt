@@ -3,7 +3,8 @@ use mathlib.Core.Path.{_≡_, sym}
 use mathlib.Core.Bool.{true, false}
 use borrow.Author.Needs.{needs}
 use borrow.Author.Tests.{not-true, not-false}
-use Rattle.writes.proofs.Laying.{front-none, serial-long}
+use Rattle.fronts.proofs.Laws.{front-none}
+use Rattle.writes.proofs.Laying.{serial-long}
 use Rattle.writes.proofs.put_if.Statement.{statement}
 use Rattle.writes.proofs.put_if.Tie as tie
 

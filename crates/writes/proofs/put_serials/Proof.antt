@@ -7,8 +7,9 @@ use lib.ListN.{length, take, getD}
 use lib.Seq.{length-take-le, take-all}
 use borrow.Author.Needs.{needs}
 use Rattle.records.specs.Layout.{serialBytes, serialsBytes}
-use Rattle.records.specs.Parts.{front}
-use Rattle.writes.proofs.Laying.{front-none, front-lend, part-long, serials-long, bytes-more}
+use Rattle.fronts.specs.Fronts.{front}
+use Rattle.fronts.proofs.Laws.{front-none, front-part}
+use Rattle.writes.proofs.Laying.{part-long, serials-long, bytes-more}
 use Rattle.writes.proofs.put_serials.Statement.{statement}
 use Rattle.writes.proofs.put_serials.Tie as tie
 
@@ -59,7 +60,7 @@ loop-again c =
     let h : i < length (a .list .now) = omega arith in
     let s : length (serialsBytes (take i (a .list .now))) ≡ i * 4 = serials-long (take i (a .list .now)) ∙ ap (λ (n : ℕ). n * 4) (length-take-le i (a .list .now) (omega arith)) in (
       omega arith,
-      front-lend (serialsBytes (take i (a .list .now))) (a .out .now) (l .loop .out) (i * 4) (l .loop .inv .1) s (serialBytes (getD (a .list .now) i 0)) _ (c .before .before .put-serial .ensures)
+      front-part (serialsBytes (take i (a .list .now))) (a .out .now) (l .loop .out) (i * 4) (l .loop .inv .1) s (serialBytes (getD (a .list .now) i 0)) _ (c .before .before .put-serial .ensures)
           ∙ ap (λ (z : List ℕ). front z (a .out .now)) (sym (bytes-more (a .list .now) i h)),
       c .before .out .given .1 ∙ l .loop .inv .2,
     )
