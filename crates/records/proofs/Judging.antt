@@ -8,9 +8,10 @@ use lib.Dec.{eqb, ltb, leb·suc-suc}
 use lib.ListN.{length, getD, take, drop, length-drop}
 use lib.Seq.{drop-drop, take-all}
 use borrow.Author.Tests.{lt-ltb, le-ltb, eqb-true, eqb-false, ne-eqb, ltb-true, ltb-false}
-use Rattle.rosters.specs.Rosters.{placeOf, holds, firstRepeat, firstFault, rising}
+use Rattle.rosters.specs.Rosters.{placeOf, holds, firstRepeat, firstFault}
 use Rattle.rosters.proofs.Laws.{past-holds, fault-nil, fault-zero, fault-twice, fault-new, fault-none, fault-some}
-use Rattle.rosters.proofs.Orders.{rising-zero, rising-repeat}
+use Rattle.orders.specs.Orders.{rising}
+use Rattle.orders.proofs.Orders.{rising-zero, rising-repeat}
 use Rattle.records.specs.Layout.{Parsed, got, then, check, wordAt, serial, rosterSerials}
 use Rattle.records.specs.Records.{serials, rosterIs}
 use Rattle.records.specs.Parts.{coded, rosterFault, Rostered, Like}

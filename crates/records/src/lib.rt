@@ -358,7 +358,7 @@ fn is_like(bytes: &[u8], at: usize, list: &[u32], order: &[u8]) -> bool
     if !roster_is(bytes, at + 1, n, list) {
         return false;
     }
-    rosters::rises(list, order)
+    orders::rises(list, order)
 }
 
 // The same as `read`, and cheap where the record's roster is this list and the list's serials rise in this order.

@@ -44,9 +44,9 @@ fn opened_by(bytes: &[u8], at: usize, x: Record) -> Recovery
 // The order of a recovery's places in which its serials rise.
 fn order_of(serials: &[u32], count: usize) -> [u8; 128] {
     if serials.len() < count {
-        return rosters::order(serials);
+        return orders::order(serials);
     }
-    rosters::order(&serials[..count])
+    orders::order(&serials[..count])
 }
 
 // Reads the record at a position: most often its roster is the recovery's.

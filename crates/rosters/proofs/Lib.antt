@@ -1,5 +1,4 @@
--- `Laws`, `Pads` and `Orders` are what a crate above cites; `Marks` is for `first_fault`.
+-- `Laws` and `Pads` are what a crate above cites; `Marks` is for `first_fault`.
 pub mod Laws
 pub mod Pads
 pub mod Marks
-pub mod Orders
