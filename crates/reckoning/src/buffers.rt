@@ -203,7 +203,14 @@ fn check(c: Case, r: Recovery, pile: Pile, t: Tally, m: u32) -> Tally {
 }
 
 // Checks every so many-th matrix of the roster.
-pub(crate) fn checks(c: Case, r: Recovery, pile: Pile, tally: Tally, from: u32, stride: u32) -> Tally
+pub(crate) fn checks(
+    c: Case,
+    r: Recovery,
+    pile: Pile,
+    tally: Tally,
+    from: u32,
+    stride: u32,
+) -> Tally
     requires { ⌜ (0 < stride) × (stride ≤ 65536) ⌝ }
 {
     let mut t = tally;
