@@ -50,7 +50,7 @@ fn lay_both(rows: &Rows, n: usize, first: &mut [u8], second: &mut [u8])
     ensures { λ s. ⌜ now (first .exit) ≡ laidIn n (rowsOf (now (rows .entry))) (now (first .entry)) ⌝ }
     ensures { λ s. ⌜ now (second .exit) ≡ laidIn n (rowsOf (now (rows .entry))) (now (second .entry)) ⌝ }
 {
-    if 32 < n {
+    if 96 < n {
         lay_copied(rows, n, first, second);
         return;
     }
