@@ -166,7 +166,7 @@ fn of_place(list: &[u32], c: Case, r: Recovery, pile: Pile, tally: Tally, place:
     again(c, r, t, place, mourned)
 }
 
-pub fn places(list: &[u32], c: Case, r: Recovery, pile: Pile, tally: Tally) -> Tally {
+pub(crate) fn places(list: &[u32], c: Case, r: Recovery, pile: Pile, tally: Tally) -> Tally {
     let mut t = tally;
     let mut place = 0;
     while place < c.n {

@@ -45,7 +45,7 @@ fn byte(n: usize) -> u8 {
 }
 
 // The serial of a place, 0 where there is none.
-pub fn serial(roster: &[u32], place: usize) -> u32 {
+pub(crate) fn serial(roster: &[u32], place: usize) -> u32 {
     if place < roster.len() {
         return roster[place];
     }
