@@ -34,11 +34,7 @@ size-few d = go (leb (d .count) 128) refl
     go true e = leb-true (d .count) 128 e
     go false e = omega arith
 
--- what a day shows of its rows and of who has stopped is on the roster
-pub stopped-on : (d : Day) (p : ℕ) → executionOf d .stopped p ≡ true → p < sizeOf d
-unfolding executionOf
-stopped-on d p e = ltb-true p (sizeOf d) (and-left (ltb p (sizeOf d)) (has (d .stopped) p) e)
-
+-- what stands in a day's row is on the roster
 pub row-on : (d : Day) (p q : ℕ) → executionOf d .row p q ≡ true → q < sizeOf d
 unfolding executionOf
 row-on d p q e = ltb-true q (sizeOf d) (and-left (ltb q (sizeOf d)) (rowsOf (d .rows) p q) e)

@@ -1,24 +1,24 @@
 -- A day's records, offered in any order, are taken or repeated, and what is answered then is true of the day. Assumes nothing.
-use mathlib.Core.Path.{_≡_, refl, sym, ap, _∙_, subst, fun-ext}
+use mathlib.Core.Path.{_≡_, refl, sym, ap, _∙_, subst}
 use mathlib.Core.Bool.{Bool, true, false, cond}
 use mathlib.Core.Logic.{_⊎_, inl, inr, _↔_}
-use mathlib.Core.List.{List, [], _∷_, _++_, List·Memᴰ, List·Memᴰ·head, List·Memᴰ·tail}
+use mathlib.Core.List.{List, [], _∷_, _++_, map, List·Memᴰ, List·Memᴰ·head, List·Memᴰ·tail, List·Memᴰ·not-nil, List·Memᴰ·cases-cons}
 use Prim.Native.Nat.{ℕ, zero, suc, _+_, _^_, _<_, _≤_}
 use native.Mathlib.Omega.{arith}
 use lib.ListN.{length, getD, length-append}
 use lib.Dec.{eqb}
-use borrow.Author.Tests.{eqb-true, lt-ltb, le-leb}
+use borrow.Author.Tests.{lt-ltb, le-leb}
 use Rattle.places.specs.Sets.{any}
-use Rattle.places.proofs.Booleans.{split, clash, is-false, or-cases, or-left, or-right, eqb-self}
+use Rattle.places.proofs.Booleans.{split, clash, is-false, or-left, or-right, eqb-self}
 use Rattle.places.proofs.Tests.{last-or-below, any-elim, any-none}
 use Rattle.histories.specs.declared.Kind.{Kind}
-use Rattle.histories.specs.Histories.{History, IsHistory, Accepted, none, lay, Fits, Last, LastInAll, LastInNone}
+use Rattle.histories.specs.Histories.{History, IsHistory, none, Fits, Last}
 use Rattle.rosters.specs.Rosters.{IsRoster, listed}
 use Rattle.rosters.specs.declared.Listed.{Listed}
 use Rattle.rosters.specs.declared.Listed.the-variants as L
 use Rattle.rosters.proofs.Laws.{listed-sound}
 use Rattle.records.specs.declared.Writing.the-variants as W
-use Rattle.records.specs.Layout.{Parsed, got, refused, knownKind, kindOf, Stored, layout}
+use Rattle.records.specs.Layout.{refused, knownKind, kindOf, layout}
 use Rattle.records.specs.Records.{putAt, writtenAt}
 use Rattle.records.proofs.Layouts.{IsStored}
 use Rattle.records.proofs.Trips.{layout-lone}
@@ -26,17 +26,18 @@ use Rattle.recovery.specs.declared.Recovery.{Recovery}
 use Rattle.recovery.specs.declared.Opening as recovery
 use Rattle.recovery.specs.declared.Opening.the-variants as R
 use Rattle.recovery.specs.declared.Opened.{Opened}
-use Rattle.replies.specs.declared.Reply.{Reply}
 use Rattle.replies.specs.declared.Reply.the-variants as O
 use Rattle.recovery.specs.declared.Asked.{Asked}
-use Rattle.recovery.specs.Contracts.{acceptedOf, unopened, openedAs, opened, offered}
+use Rattle.recovery.specs.Contracts.{acceptedOf, unopened, openedAs, opened}
 use Rattle.recovery.specs.Demand as D
-use Rattle.recovery.specs.Demand.{Free, Opens, offer, ask, Outcome, says, OfGroup, Dictates, faulty, foreign, repeats, differs, takes, none-fits, asked-off, asked-last, asked-not, asked-open}
-use Rattle.recovery.specs.Run.{openingSays, offerSays, askedSays, outcome}
-use Rattle.recovery.specs.Run as run
+use Rattle.recovery.specs.Demand.{Free, Opens, ask, says, OfGroup}
+use Rattle.recovery.specs.Run.{openingSays, askedSays, outcome, left, reached}
 use Rattle.recovery.proofs.Opens.{known-intro, opens, opened-free}
 use Rattle.recovery.proofs.Keeps.{fresh-accepted}
-use Rattle.recovery.proofs.Demand.{Good, good-opened, good-next, step}
+use Rattle.recovery.specs.Later.{offers, Accepts}
+use Rattle.recovery.proofs.Demand.{Good, good-opened, good-after, step}
+use Rattle.recovery.proofs.Dictated.{last-iff, not-last-iff, Agrees}
+use Rattle.recovery.proofs.Later.{agreeing-accepted}
 use Rattle.executions.specs.declared.Day.{Day}
 use Rattle.executions.specs.declared.Event.{Event}
 use Rattle.executions.specs.declared.Played.{Played}
@@ -45,8 +46,7 @@ use Rattle.executions.specs.declared.Opening.{Opening}
 use Rattle.executions.specs.declared.Opening.the-variants as G
 use Rattle.executions.specs.Executions.{Execution}
 use Rattle.executions.specs.Contracts.{sizeOf, executionOf, starting, unbegun, begunAs, begun, dayAfter, played, recordOf, writtenOf}
-use Rattle.executions.specs.Finished.{recordBytes, Over, Given, True}
-use Rattle.executions.specs.Finished as given
+use Rattle.executions.specs.Finished.{recordBytes, Over, recordsOf, True}
 use Rattle.executions.proofs.Executed.{stops, allowed-free, afterStop, happening-stop, orderly-history}
 use Rattle.executions.proofs.Days.{after-execution}
 use Rattle.executions.proofs.Plays.{Kept, kept-starting, kept-after, faultOn, played-kept, Plays, done, next, plays-played}
@@ -99,36 +99,6 @@ module _ (kind : ℕ) (s : List ℕ) where
 pub begun-kept : (kind : ℕ) (s : List ℕ) → Free kind s → Kept (kindOf kind) s (begun kind s .day)
 begun-kept kind s f = subst (λ (b : Begun). Kept (kindOf kind) s (b .day)) (sym (begun-as kind s f)) (kept-starting (kindOf kind) s (f .sound .few))
 
--- ---- what is read twice
-
-read-clash : {X : Type 0} {p : Parsed Stored} {rest : List ℕ} {j : ℕ} {x : Stored} → p ≡ refused j → p ≡ got x rest → X
-read-clash e h = let z : _≡_ {A = ℕ} 0 1 = cc in absurd (omega arith)
-
-same-record : {p : Parsed Stored} {u v : List ℕ} {x y : Stored} → p ≡ got x u → p ≡ got y v → x ≡ y
-same-record e h = cc
-
--- ---- words
-
-said : (a : Reply) → (says (offerSays a) ≡ says D.taken) ⊎ (says (offerSays a) ≡ says D.repeated) → (a ≡ O.Taken) ⊎ (a ≡ O.Repeated)
-unfolding offerSays
-said O.Taken e = inl refl
-said O.Repeated e = inr refl
-said (O.Refused j) (inl e) = let z : _≡_ {A = ℕ} 0 1 = cc in absurd (omega arith)
-said (O.Refused j) (inr e) = let z : _≡_ {A = ℕ} 0 1 = cc in absurd (omega arith)
-
--- what asking dictates, by what is said
-dictates-last : {k : Kind} {roster : List ℕ} {A B : Accepted} {i : ℕ} {o : Outcome} → Dictates k roster A (ask i) o B → o ≡ says D.is-last → LastInAll k (length roster) A i
-dictates-last (asked-off l) e = let z : _≡_ {A = ℕ} 0 1 = cc in absurd (omega arith)
-dictates-last (asked-last l a) e = a
-dictates-last (asked-not l a) e = let z : _≡_ {A = ℕ} 0 1 = cc in absurd (omega arith)
-dictates-last (asked-open l a) e = let z : _≡_ {A = ℕ} 0 1 = cc in absurd (omega arith)
-
-dictates-not : {k : Kind} {roster : List ℕ} {A B : Accepted} {i : ℕ} {o : Outcome} → Dictates k roster A (ask i) o B → o ≡ says D.not-last → LastInNone k (length roster) A i
-dictates-not (asked-off l) e = let z : _≡_ {A = ℕ} 0 1 = cc in absurd (omega arith)
-dictates-not (asked-last l a) e = let z : _≡_ {A = ℕ} 0 1 = cc in absurd (omega arith)
-dictates-not (asked-not l a) e = a
-dictates-not (asked-open l a) e = let z : _≡_ {A = ℕ} 0 1 = cc in absurd (omega arith)
-
 -- ---- a day that was opened and played, and a recovery of its group
 
 module _ {k : Kind} {s : List ℕ} {d : Day} (sound : IsRoster s) (below : (p : ℕ) → p < length s → getD s p 0 < 2 ^ 32) (g : Kept k s d) where
@@ -153,30 +123,6 @@ module _ {k : Kind} {s : List ℕ} {d : Day} (sound : IsRoster s) (below : (p : 
   unfolding recordBytes recordOf
   record-group p l = record { rest = []; reads = layout-lone (recordOf d p) (record-stored p l); same-kind = g .sound .is-kind; same-roster = g .sound .is-roster }
 
-  module _ {A : Accepted} (f : Fits k (length s) A rows) (p : ℕ) where
-    -- the day's rows fit with the record of p laid on the others
-    lay-fits : Fits k (length s) (lay A p (rows p)) rows
-    lay-fits = record { history = is-history; recorded = λ r b q. go r q (eqb r p) refl (or-cases (A .returned r) (eqb r p) b) }
-      where
-        go : (r q : ℕ) (t : Bool) → eqb r p ≡ t → (A .returned r ≡ true) ⊎ (eqb r p ≡ true) → rows r q ≡ cond t (rows p) (A .row r) q
-        go r q true e b = ap (λ (x : ℕ). rows x q) (eqb-true r p e)
-        go r q false e (inl b) = f .recorded r b q
-        go r q false e (inr h) = clash h e
-
-    -- so nothing else is dictated than taken or repeated, and the rows fit what is left
-    offer-dictates : {bytes : List ℕ} → OfGroup k s bytes (recordOf d p) → {o : Outcome} {B : Accepted} → Dictates k s A (offer bytes) o B
-        → ((o ≡ says D.taken) ⊎ (o ≡ says D.repeated)) × Fits k (length s) B rows
-    unfolding recordOf
-    offer-dictates x (faulty e l m) = read-clash e (x .reads)
-    offer-dictates x (foreign e z) =
-        absurd (z (subst (λ (y : Stored). (y .kind ≡ k) × (y .roster ≡ s)) (same-record (x .reads) e) (x .same-kind, x .same-roster)))
-    offer-dictates x (repeats y b q) = (inr refl, f)
-    offer-dictates x (differs y b z) =
-        absurd (z (subst (λ (y : Stored). A .returned (y .own) ≡ true → y .mourned ≡ A .row (y .own)) (same-record (x .reads) (y .reads)) (λ b. fun-ext (f .recorded p b)) b))
-    offer-dictates x (takes y b h) = (inl refl, subst (λ (y : Stored). Fits k (length s) (lay A (y .own) (y .mourned)) rows) (same-record (x .reads) (y .reads)) lay-fits)
-    offer-dictates x (none-fits y b z) =
-        absurd (z rows (subst (λ (y : Stored). Fits k (length s) (lay A (y .own) (y .mourned)) rows) (same-record (x .reads) (y .reads)) lay-fits))
-
   -- somebody heard one that is not last
   heard-of : (i : ℕ) → ¬ (Last rows i) → (x : ℕ) × (rows x i ≡ true)
   heard-of i z = go (any (length s) (λ x. rows x i)) refl
@@ -185,34 +131,29 @@ module _ {k : Kind} {s : List ℕ} {d : Day} (sound : IsRoster s) (below : (p : 
       go true e = let w = any-elim (length s) (λ x. rows x i) e in (w .0, w .2)
       go false e = absurd (z (λ p. is-false (rows p i) (λ t. clash t (any-none (length s) (λ x. rows x i) e p (is-history .inside p i t .0)))))
 
-  module _ {r : Recovery} (good : Good k s r) (f : Fits k (length s) (acceptedOf r) rows) where
-    answers-true : True d r
-    unfolding outcome askedSays
-    answers-true = record {
-      last = λ p e. dictates-last (step good (ask p)) (ap (λ (a : Asked). says (askedSays a)) e) rows f;
-      not-last = λ p e. heard-of p (dictates-not (step good (ask p)) (ap (λ (a : Asked). says (askedSays a)) e) rows f);
-    }
+  answers-true : {r : Recovery} → Good k s r → Fits k (length s) (acceptedOf r) rows → True d r
+  unfolding outcome askedSays
+  answers-true good f = record {
+    last = λ p e. last-iff (good .fits) (step good (ask p)) .0 (ap (λ (a : Asked). says (askedSays a)) e) .1 rows f;
+    not-last = λ p e. heard-of p (not-last-iff (good .fits) (step good (ask p)) .0 (ap (λ (a : Asked). says (askedSays a)) e) .1 rows f);
+  }
 
-    offer-taken : (p : ℕ) → p < length s → (offered r (recordBytes d p) .answer ≡ O.Taken) ⊎ (offered r (recordBytes d p) .answer ≡ O.Repeated)
-    unfolding outcome
-    offer-taken p l = said (offered r (recordBytes d p) .answer) (offer-dictates f p (record-group p l) (step good (offer (recordBytes d p))) .0)
-
-    offer-good : (p : ℕ) → Good k s (offered r (recordBytes d p) .recovery)
-    unfolding run.next
-    offer-good p = good-next good (offer (recordBytes d p))
-
-    offer-fits : (p : ℕ) → p < length s → Fits k (length s) (acceptedOf (offered r (recordBytes d p) .recovery)) rows
-    unfolding run.next
-    offer-fits p l = offer-dictates f p (record-group p l) (step good (offer (recordBytes d p))) .1
+  -- each record agrees with the day
+  records-agree : (ps : List ℕ) → ((p : ℕ) → List·Memᴰ p ps → p < length s) → (x : List ℕ) → List·Memᴰ x (recordsOf d ps) → Agrees k s rows x
+  unfolding recordsOf recordOf
+  records-agree [] on x m = absurd (List·Memᴰ·not-nil m)
+  records-agree (p ∷ ps) on x m = go (records-agree ps (λ q n. on q (List·Memᴰ·tail n)) x) (List·Memᴰ·cases-cons m)
+    where
+      go : (List·Memᴰ x (map (recordBytes d) ps) → Agrees k s rows x) → (x ≡ recordBytes d p) ⊎ List·Memᴰ x (map (recordBytes d) ps) → Agrees k s rows x
+      go rest (inl e) = subst (Agrees k s rows) (sym e) (record { stored = recordOf d p; of-group = record-group p (on p (List·Memᴰ·head refl)); row = refl })
+      go rest (inr n) = rest n
 
   -- the records of any places, in any order
-  all-given : (ps : List ℕ) → ((p : ℕ) → List·Memᴰ p ps → p < length s) → (r : Recovery) → Good k s r → Fits k (length s) (acceptedOf r) rows
-      → (q : Recovery) × Given d r ps q × True d q
-  all-given [] on r good f = (r, given.none, answers-true good f)
-  all-given (p ∷ ps) on r good f =
-      let l : p < length s = on p (List·Memᴰ·head refl) in
-      let w = all-given ps (λ q m. on q (List·Memᴰ·tail m)) (offered r (recordBytes d p) .recovery) (offer-good good f p) (offer-fits good f p l) in
-      (w .0, given.next (offer-taken good f p l) (w .1), w .2)
+  all-accepted : (ps : List ℕ) → ((p : ℕ) → List·Memᴰ p ps → p < length s) → (r : Recovery) → Good k s r → Fits k (length s) (acceptedOf r) rows
+      → Accepts r (recordsOf d ps) × True d (left r (offers (recordsOf d ps)))
+  all-accepted ps on r good f =
+      let w = agreeing-accepted good f (recordsOf d ps) (records-agree ps on) in
+      (w .0, answers-true (good-after good (offers (recordsOf d ps))) (w .1))
 
 -- ---- the theorem
 
@@ -223,10 +164,10 @@ module _ (kind : ℕ) (s : List ℕ) (f : Free kind s) where
   -- of a day that was opened and played, over or not
   pub any-time : (d : Day) → Kept (kindOf kind) s d
       → IsHistory (kindOf kind) (length s) (executionOf d .row)
-      × ((ps : List ℕ) → ((p : ℕ) → List·Memᴰ p ps → p < length s) → (r : Recovery) × Given d (opened kind s .recovery) ps r × True d r)
+      × ((ps : List ℕ) → ((p : ℕ) → List·Memᴰ p ps → p < length s) → Accepts (opened kind s .recovery) (recordsOf d ps) × True d (reached kind s (offers (recordsOf d ps))))
   any-time d g = (
     is-history (f .sound) (f .serials) g,
-    λ ps on. all-given (f .sound) (f .serials) g ps on (opened kind s .recovery) (good-opened f) (rw opened-none (record { history = is-history (f .sound) (f .serials) g; recorded = λ p e q. clash e refl })),
+    λ ps on. all-accepted (f .sound) (f .serials) g ps on (opened kind s .recovery) (good-opened f) (rw opened-none (record { history = is-history (f .sound) (f .serials) g; recorded = λ p e q. clash e refl })),
   )
 
 -- for every kind and roster free of faults and every list of events, once the day is over: its rows are a history, and its records
@@ -234,7 +175,8 @@ module _ (kind : ℕ) (s : List ℕ) (f : Free kind s) where
 pub finished : (kind : ℕ) (s : List ℕ) → Free kind s → (es : List Event) → Over (played (begun kind s .day) es .day)
     → IsHistory (kindOf kind) (length s) (executionOf (played (begun kind s .day) es .day) .row)
     × ((ps : List ℕ) → ((p : ℕ) → List·Memᴰ p ps → p < length s)
-    → (r : Recovery) × Given (played (begun kind s .day) es .day) (opened kind s .recovery) ps r × True (played (begun kind s .day) es .day) r)
+    → Accepts (opened kind s .recovery) (recordsOf (played (begun kind s .day) es .day) ps)
+    × True (played (begun kind s .day) es .day) (reached kind s (offers (recordsOf (played (begun kind s .day) es .day) ps))))
 finished kind s f es over = any-time kind s f (played (begun kind s .day) es .day) (played-kept (begun-kept kind s f) es)
 
 -- ---- its records are written

@@ -9,7 +9,7 @@ use native.Mathlib.Omega.{arith}
 use native.Mathlib.Decide.{decLt}
 use lib.Dec.{leb, ltb}
 use lib.ListN.{length, take, drop, getD, set, length-append, length-drop, length-set, drop-of-length-le}
-use lib.Seq.{take-at, drop-at, take-all, take-suc, drop-drop, drop-cons, drop-set-lt, getD-set-same, set-at, length-take-le}
+use lib.Seq.{take-all, take-suc, drop-drop, drop-cons, drop-set-lt, getD-set-same, length-take-le}
 use borrow.Author.Tests.{ltb-true, lt-ltb, le-ltb, le-leb, lt-leb}
 use borrow.Rule.Slice.PartMut.{putMid}
 use Rattle.records.specs.declared.Writing.the-variants as W
@@ -253,8 +253,3 @@ line-length (place-line n a h) = simp (length-line, length-append) (omega (arith
 line-length (whole-line true) = simp length-line (omega arith)
 line-length (whole-line false) = simp length-line (omega arith)
 line-length none-line = simp length-line (omega arith)
-
--- so one fits where 40 bytes are left
-pub line-put : {s : List ℕ} (out : List ℕ) (at : ℕ) → IsLine s → at + 40 ≤ length out → writtenAt s out at .answer ≡ W.Next (at + length s)
-unfolding writtenAt
-line-put {s} out at i h = rw (le-leb (at + length s) (length out) (omega (arith, line-length i)))

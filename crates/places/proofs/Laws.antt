@@ -5,7 +5,7 @@ use mathlib.Core.Bool.{Bool, true, false, not, cond, _&&_, _||_, and-true}
 use Prim.Native.Nat.{ℕ, suc, _≤_, _<_}
 use native.Mathlib.Omega.{arith}
 use lib.Dec.{eqb, ltb}
-use borrow.Author.Tests.{ltb-true, ltb-false, lt-ltb, le-ltb, eqb-true}
+use borrow.Author.Tests.{ltb-true, ltb-false, lt-ltb, eqb-true}
 use Rattle.places.specs.Sets.{Places, only, union, with, without, difference, nothing, any, subset, count, lowest}
 use Rattle.places.specs.PlaceSets.{has, kept, Words, packed, found}
 use Rattle.places.specs.declared.PlaceSet.{PlaceSet}

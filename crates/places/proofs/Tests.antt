@@ -1,13 +1,13 @@
 -- The laws of any, all, subset, same and lowest, for every set and every n. Assumes nothing.
-use mathlib.Core.Path.{_≡_, refl, sym, ap, _∙_}
+use mathlib.Core.Path.{_≡_, refl}
 use mathlib.Core.Bool.{Bool, true, false, not, cond, _&&_, _||_, Bool·beq, false≢true}
 use mathlib.Core.Logic.{_⊎_, inl, inr}
 use Prim.Native.Nat.{ℕ, zero, suc, _<_, _≤_}
 use native.Mathlib.Omega.{arith}
-use native.Mathlib.Nat.{le-of-suc-le-suc, not-suc-le-zero}
+use native.Mathlib.Nat.{le-of-suc-le-suc}
 use native.Mathlib.Decide.{ℕ-discrete, decLt}
 use Rattle.places.specs.Sets.{Places, any, all, subset, same, lowest}
-use Rattle.places.proofs.Booleans.{clash, is-false, is-true, split, and-intro, and-left, and-right, or-cases, or-left, or-right, implies-elim, implies-intro, beq-elim, beq-intro}
+use Rattle.places.proofs.Booleans.{clash, is-false, is-true, and-intro, and-left, and-right, or-cases, or-left, or-right, implies-elim, implies-intro, beq-elim, beq-intro}
 
 -- the last of n + 1, or one before it
 pub last-or-below : (p n : ℕ) → p < suc n → (p ≡ n) ⊎ (p < n)

@@ -1,6 +1,5 @@
 -- `has` by the two words: what the proofs of this crate's functions cite. Whoever uses a set cites `Laws`, and no word. Assumes nothing.
 use mathlib.Core.Path.{_≡_, refl, sym, ap, ap₂, _∙_, subst, fun-ext}
-use mathlib.Core.Logic.{_⊎_, inl, inr}
 use mathlib.Core.Bool.{Bool, true, false, not, cond, _&&_, _||_, and-true, and-false}
 use Prim.Native.Nat.{ℕ, _+_, _-_, _*_, _%_, _^_, _≤_, _<_}
 use native.Mathlib.Omega.{arith}
@@ -10,12 +9,11 @@ use lib.Dec.{eqb, ltb}
 use lib.Count.{ones, trailingZeros}
 use lib.Bits.{bitAnd, bitOr, bitXor}
 use Rattle.places.specs.Sets.{Places, nothing, only, below, union, intersection, difference, any, same, count, lowest}
-use Rattle.places.specs.PlaceSets.{bit, has, kept, Words, word, packed, found}
+use Rattle.places.specs.PlaceSets.{bit, has, kept, Words, packed, found}
 use Rattle.places.specs.declared.PlaceSet.{PlaceSet}
-use Rattle.places.specs.declared.Found.{Found}
 use Rattle.places.specs.declared.Found.the-variants.{At, Nothing}
 use Rattle.places.proofs.Booleans.{clash, is-false, both-ways}
-use Rattle.places.proofs.Tests.{any-elim, any-intro, none-any, same-elim, same-intro, lowest-is, lowest-none}
+use Rattle.places.proofs.Tests.{any-intro, none-any, same-elim, same-intro, lowest-is, lowest-none}
 use Rattle.places.proofs.Counting.{count-same, count-add}
 use Rattle.places.proofs.Digits.{bit-high, bit-ext, bit-some, bit-zero, bit-and, bit-or, bit-minus, bit-pow, bit-ones, bit-word, word-less, one-shl, trailing-below, trailing-at, ones-count}
 

@@ -5,8 +5,8 @@ use mathlib.Core.Logic.{_⊎_, inl, inr}
 use mathlib.Core.List.{List, [], _∷_, _++_, append-assoc, append-nil}
 use Prim.Native.Nat.{ℕ, zero, suc, _+_, _-_, _*_, _/_, _%_, _^_, _≤_, _<_}
 use native.Mathlib.Omega.{arith}
-use native.Mathlib.Decide.{decLt, ℕ-discrete}
-use lib.ListN.{length, getD, take, drop, length-append, length-drop, drop-of-length-le, List·getD-eq-default}
+use native.Mathlib.Decide.{ℕ-discrete}
+use lib.ListN.{length, getD, take, drop, length-append, length-drop, drop-of-length-le}
 use lib.Seq.{drop-cons, drop-drop, drop-at, getD-drop, getD-append-seam, length-take-le}
 use lib.Dec.{eqb, leb, ltb}
 use borrow.Author.Tests.{leb-true, le-leb, lt-ltb, eqb-true, eqb-false, eq-eqb, ne-eqb, ltb-true, le-ltb}
@@ -29,17 +29,6 @@ pub record IsStored (x : Stored) : Type 0 where
   pub below : (p : ℕ) → p < length (x .roster) → getD (x .roster) p 0 < 2 ^ 32
   pub own : x .own < length (x .roster)
   pub mourned : (q : ℕ) → x .mourned q ≡ true → q < length (x .roster)
-
--- those past the end are 0
-pub all-bytes : (s : List ℕ) → ((i : ℕ) → i < length s → getD s i 0 < 256) → AllBytes s
-all-bytes s h i = go (decLt i (length s))
-  where
-    go : Dec (i < length s) → getD s i 0 < 256
-    go (yes l) = h i l
-    go (no l) = rw (List·getD-eq-default s 0 (past l)) (omega arith)
-      where
-        past : ¬ (i < length s) → length s ≤ i
-        past l = omega arith
 
 pub bytes-drop : (n : ℕ) (s : List ℕ) → AllBytes s → AllBytes (drop n s)
 bytes-drop n s h i = rw (getD-drop n s i 0) (h (n + i))

@@ -231,12 +231,6 @@ module _ (b : List ℕ) (at : ℕ) (x : Stored) (rest : List ℕ) (e : stored (d
   pub roster-within : at + 6 + 4 * length (x .roster) ≤ length b
   roster-within = omega (arith, ends, length-layout x)
 
-  pub record-within : at + length (layout x) ≤ length b
-  record-within = omega (arith, ends)
-
-  pub rest-within : length rest ≤ length b
-  rest-within = omega (arith, ends)
-
   -- where the record ends
   pub next-is : length b - length rest ≡ at + length (layout x)
   next-is = omega (arith, ends)

@@ -15,8 +15,8 @@ use Rattle.records.specs.declared.Record.{Record}
 use Rattle.records.specs.declared.Reading.the-variants.{Read}
 use Rattle.records.specs.Layout.{Parsed, got, refused, Stored, stored, knownKind, kindOf, kindByte}
 use Rattle.records.specs.Records.{readingOf, reading, serials, rosterThere, copiable, copied}
-use Rattle.records.proofs.Layouts.{length-serials, stored-back, length-layout}
-use Rattle.records.proofs.Trips.{serials-read, roster-within, next-is}
+use Rattle.records.proofs.Layouts.{length-serials, stored-back}
+use Rattle.records.proofs.Trips.{serials-read, roster-within}
 use Rattle.recovery.specs.declared.Opened.{Opened}
 use Rattle.recovery.specs.Contracts.{fresh, unopened, openedAs, opened}
 
@@ -54,9 +54,6 @@ module _ (b : List ℕ) (at : ℕ) (x : Record) (e : reading b at ≡ Read x) wh
   -- the record ends behind its start, within the bytes
   pub ends-inside : x .next ≤ length b
   ends-inside = omega (arith, ap (λ (y : Record). y .next) (read .is))
-
-  pub ends-behind : at < x .next
-  ends-behind = omega (arith, ap (λ (y : Record). y .next) (read .is) ∙ next-is b at (read .it) (read .rest) (read .parsed), length-layout (read .it))
 
   roster-is : serials (x .count) (drop (x .roster) b) ≡ read .it .roster
   roster-is = subst (λ (y : Record). serials (y .count) (drop (y .roster) b) ≡ read .it .roster) (sym (read .is)) (serials-read b at (read .it) (read .rest) (read .parsed))

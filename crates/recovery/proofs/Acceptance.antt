@@ -1,4 +1,4 @@
--- The example of document 01, call by call, each with the outcome that it computes to. Assumes nothing.
+-- The example of document 01, call by call, each with the outcome that it computes to, and what its records leave. Assumes nothing.
 use mathlib.Core.Path.{_≡_, refl}
 use mathlib.Core.List.{List, [], _∷_, _++_, map}
 use Prim.Native.Nat.{ℕ}
@@ -94,6 +94,10 @@ lines =
     ∷ (write 1 [] 0 ▸ lent-one (refused 14) [])
     ∷ (write 3 (replicate 31 9) 1 ▸ lent-one (refused 13) (replicate 31 9))
     ∷ (write 3 (replicate 33 9) 1 ▸ lent-one (ends 32) ((9 ∷ []) ++ record-104 ++ (9 ∷ [])))
+    -- what was decided, once more after all this
+    ∷ (ask 1 ▸ says not-last)
+    ∷ (ask 3 ▸ says is-last)
+    ∷ (show 1 [] [] ▸ lent decided [] [])
     ∷ []
 
 pub opening : U.openingSays (C.opened 2 serials .answer) ≡ opened
@@ -103,3 +107,8 @@ opening = refl
 pub listing : U.run (C.opened 2 serials .recovery) (map callOf lines) ≡ map outcomeOf lines
 unfolding serials group record-101 record-104 full-101 other-101 circle-102 row first-rows second-rows callOf outcomeOf lines U.run U.next U.outcome U.offerSays U.askedSays U.showingSays U.checkedSays U.writingSays U.foundGives U.shownGives U.writtenGives C.sizeOf C.rosterOf C.acceptedOf C.fresh C.openedAs C.opened sameKind C.ofGroup C.saying C.keeping C.answered entering C.entered C.judged C.offeredAs C.offered C.answerAt C.askedAs C.asked unshown replaced shownOpen shownAs shownIn C.shown offRoster C.checkedRows C.checked C.settledOf C.unmournedOf C.unmournedCountOf C.foundIn C.recordOf C.writtenOf size acceptedIn L.then L.check L.byte L.serial L.knownKind L.kindOf L.kindSection L.rosterSerials L.rosterSection L.headSection L.mournedSerials L.mournedSection L.stored L.lone L.kindByte L.serialBytes L.serialsBytes L.chosen L.layout sameList unwritten putAt writtenAt placeOf holds firstRepeat listed noRows rowAt rowsOf withRow bytesFrom rowBytes putRow rowIn historyIn rowsFrom laid bit has word packed found any all subset same count lowest H.recorded H.mourned H.reach H.before H.ruledOutBy H.blockersBy H.answerBy H.openAnswer H.settledBy H.inherited H.agrees H.accepts H.closedRows H.fitsTest
 listing = refl
+
+-- its two records in either order, and one of them once more, leave one recovery
+pub either-order : U.left (C.opened 2 serials .recovery) (offer record-101 ∷ offer record-104 ∷ []) ≡ U.left (C.opened 2 serials .recovery) (offer record-104 ∷ offer record-101 ∷ offer record-104 ∷ [])
+unfolding serials group record-101 record-104 U.left U.next C.sizeOf C.rosterOf C.acceptedOf C.fresh C.openedAs C.opened sameKind C.ofGroup C.saying C.keeping C.answered entering C.entered C.judged C.offeredAs C.offered size acceptedIn L.then L.check L.byte L.serial L.knownKind L.kindOf L.kindSection L.rosterSerials L.rosterSection L.headSection L.mournedSerials L.mournedSection L.stored L.lone sameList placeOf holds firstRepeat listed noRows rowsOf withRow bytesFrom rowBytes putRow rowIn bit has word packed any all subset same H.recorded H.reach H.before H.accepts
+either-order = refl

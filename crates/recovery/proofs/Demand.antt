@@ -34,38 +34,43 @@ use Rattle.recovery.specs.declared.Opening.the-variants as G
 use Rattle.recovery.specs.declared.Offered.{Offered}
 use Rattle.checks.specs.Checks.{offRoster}
 use Rattle.shows.specs.Shows.{unshown}
-use Rattle.recovery.specs.Contracts.{sizeOf, rosterOf, acceptedOf, Kept, fresh, opened, ofGroup, saying, keeping, entered, offered, askedAs, asked, shown, checked, settledOf, unmournedOf, unmournedAbsentOf, unmournedCountOf, foundIn, recordOf, writtenOf}
+use Rattle.recovery.specs.Contracts.{sizeOf, rosterOf, acceptedOf, holding, fresh, opened, ofGroup, saying, keeping, entered, offered, askedAs, asked, shown, checked, settledOf, unmournedOf, unmournedAbsentOf, unmournedCountOf, foundIn, recordOf, writtenOf}
 use Rattle.recovery.specs.Demand as D
 use Rattle.recovery.specs.Demand.{Free, Call, offer, ask, show, check, whole, unmourned, unmourned-absent, unmourned-count, find, write, says, lent-one, places, number, OfGroup, Holds, recordIn, Dictates, faulty, foreign, repeats, differs, takes, none-fits, asked-off, asked-last, asked-not, asked-open, showed-off, showed-decided, showed-short, showed, checked-short, checked-off, checked-fits, checked-not, whole-settled, whole-open, gave-unmourned, gave-absent, gave-count, found-at, found-none, wrote-off, wrote-absent, wrote-short, wrote, Whole, end, then}
 use Rattle.recovery.specs.Run.{offerSays, askedSays, showingSays, checkedSays, writingSays, foundGives, shownGives, writtenGives, outcome, next, run, left}
 use Rattle.recovery.proofs.Opens.{opened-free}
-use Rattle.recovery.proofs.Keeps.{row-on, fresh-rows, fresh-accepted, fresh-size, fresh-roster, fresh-serials, kept-accepted, kept-kind, kept-size, kept-roster, kept-serials, kept-rows, fresh-kept, keeping-kept, kept-answer, kept-settled, kept-shown, kept-unmourned, kept-absent, kept-count}
+use Rattle.recovery.proofs.Keeps.{row-on, fresh-accepted, fresh-holds, kept-accepted, Held, held-kind, held-size, held-roster, held-table, keeping-holds, kept-answer, kept-settled, kept-shown, kept-unmourned, kept-absent, kept-count}
 use Rattle.recovery.proofs.Calls as call
 use Rattle.recovery.proofs.Facts.{rows-equal, off-there, rows-on, lone-on, take-put, past-put}
 
 -- the invariant: true from the opening on, whatever is called
 pub record Good (k : Kind) (roster : List ℕ) (r : Recovery) : Type 0 where
-  pub is-kind : r .kind ≡ k
-  pub is-roster : rosterOf r ≡ roster
-  pub is-size : sizeOf r ≡ length roster
+  pub held : Held k roster r
   pub sound : IsRoster roster
   pub below : (p : ℕ) → p < length roster → getD roster p 0 < 2 ^ 32
-  pub all-serials : length (r .serials) ≡ 128
-  pub all-rows : length (r .rows) ≡ 2048
-  pub kept : Kept r
   pub some : History
   pub fits : Fits k (length roster) (acceptedOf r) some
+
+module _ {k : Kind} {roster : List ℕ} {r : Recovery} (g : Good k roster r) where
+  pub is-kind : r .kind ≡ k
+  is-kind = held-kind (g .held)
+
+  pub is-roster : rosterOf r ≡ roster
+  is-roster = held-roster (g .held)
+
+  pub is-size : sizeOf r ≡ length roster
+  is-size = held-size (g .held)
 
 -- ---- one call on a recovery of this roster; its kind is its own
 
 module _ {roster : List ℕ} {r : Recovery} (g : Good (r .kind) roster r) where
   -- what stands in an accepted row is on the roster
   row-inside : (p q : ℕ) → acceptedOf r .row p q ≡ true → q < length roster
-  row-inside p q e = rw (g .is-size) at (row-on r p q e)
+  row-inside p q e = rw (is-size g) at (row-on r p q e)
 
   -- the answer by what is kept
   by : (i : ℕ) {a : Answer} → answer (r .kind) (length roster) (acceptedOf r) i ≡ a → answerBy (r .kind) (length roster) (acceptedOf r) (has (r .mourned)) i ≡ a
-  by i e = kept-answer (g .is-size) (g .kept) i ∙ e
+  by i e = kept-answer (g .held) i ∙ e
 
   -- ---- asking
 
@@ -77,13 +82,13 @@ module _ {roster : List ℕ} {r : Recovery} (g : Good (r .kind) roster r) where
       n = length roster
 
       at : i < n → (a : Answer) → answer (r .kind) n (acceptedOf r) i ≡ a → Dictates (r .kind) roster (acceptedOf r) (ask i) (says (askedSays (asked r i))) (acceptedOf r)
-      at l is-last e = rw (call.asked-is r (g .is-size) i is-last l (by i e)) (asked-last l (exact (g .fits) i l .last-iff .0 e))
-      at l not-last e = rw (call.asked-is r (g .is-size) i not-last l (by i e)) (asked-not l (exact (g .fits) i l .not-iff .0 e))
-      at l is-open e = rw (call.asked-is r (g .is-size) i is-open l (by i e)) (asked-open l (exact (g .fits) i l .shown e))
+      at l is-last e = rw (call.asked-is r (is-size g) i is-last l (by i e)) (asked-last l (exact (g .fits) i l .last-iff .0 e))
+      at l not-last e = rw (call.asked-is r (is-size g) i not-last l (by i e)) (asked-not l (exact (g .fits) i l .not-iff .0 e))
+      at l is-open e = rw (call.asked-is r (is-size g) i is-open l (by i e)) (asked-open l (exact (g .fits) i l .shown e))
 
       go : Dec (i < n) → Dictates (r .kind) roster (acceptedOf r) (ask i) (says (askedSays (asked r i))) (acceptedOf r)
       go (yes l) = at l (answer (r .kind) n (acceptedOf r) i) refl
-      go (no l) = let m : n ≤ i = omega arith in rw (call.asked-off r (g .is-size) i m) (asked-off m)
+      go (no l) = let m : n ≤ i = omega arith in rw (call.asked-off r (is-size g) i m) (asked-off m)
 
   -- ---- showing
 
@@ -114,7 +119,7 @@ module _ {roster : List ℕ} {r : Recovery} (g : Good (r .kind) roster r) where
       d = exact (g .fits) i l .shown e
 
       short : (length a < 16 * n) ⊎ (length b < 16 * n) → Dictates (r .kind) roster (acceptedOf r) (show i a b) (shownGives (shown r i a b)) (acceptedOf r)
-      short s = rw (call.shown-short r (g .is-size) i a b l (by i e) s) (showed-short l d s)
+      short s = rw (call.shown-short r (is-size g) i a b l (by i e) s) (showed-short l d s)
 
       go : Dec (length a < 16 * n) → Dec (length b < 16 * n) → Dictates (r .kind) roster (acceptedOf r) (show i a b) (shownGives (shown r i a b)) (acceptedOf r)
       go (yes x) y = short (inl x)
@@ -122,7 +127,7 @@ module _ {roster : List ℕ} {r : Recovery} (g : Good (r .kind) roster r) where
       go (no x) (no y) =
           let u : 16 * n ≤ length a = omega arith in
           let v : 16 * n ≤ length b = omega arith in
-          rw (kept-shown (g .is-size) (g .kept) i a b l e u v)
+          rw (kept-shown (g .held) i a b l e u v)
           (showed l u v d (holds (recorded (acceptedOf r)) a u (d .first-fits .history .inside)) (holds (second (r .kind) n (acceptedOf r) i) b v (d .second-fits .history .inside)))
 
   show-step : (i : ℕ) (a b : List ℕ) → Dictates (r .kind) roster (acceptedOf r) (show i a b) (shownGives (shown r i a b)) (acceptedOf r)
@@ -133,27 +138,23 @@ module _ {roster : List ℕ} {r : Recovery} (g : Good (r .kind) roster r) where
       n = length roster
 
       at : i < n → (w : Answer) → answer (r .kind) n (acceptedOf r) i ≡ w → Dictates (r .kind) roster (acceptedOf r) (show i a b) (shownGives (shown r i a b)) (acceptedOf r)
-      at l is-last e = rw (call.shown-last r (g .is-size) i a b l (by i e)) (showed-decided l (inl (exact (g .fits) i l .last-iff .0 e)))
-      at l not-last e = rw (call.shown-not r (g .is-size) i a b l (by i e)) (showed-decided l (inr (exact (g .fits) i l .not-iff .0 e)))
+      at l is-last e = rw (call.shown-last r (is-size g) i a b l (by i e)) (showed-decided l (inl (exact (g .fits) i l .last-iff .0 e)))
+      at l not-last e = rw (call.shown-not r (is-size g) i a b l (by i e)) (showed-decided l (inr (exact (g .fits) i l .not-iff .0 e)))
       at l is-open e = open-step i a b l e
 
       go : Dec (i < n) → Dictates (r .kind) roster (acceptedOf r) (show i a b) (shownGives (shown r i a b)) (acceptedOf r)
       go (yes l) = at l (answer (r .kind) n (acceptedOf r) i) refl
-      go (no l) = let m : n ≤ i = omega arith in rw (call.shown-off r (g .is-size) i a b m) (showed-off m)
+      go (no l) = let m : n ≤ i = omega arith in rw (call.shown-off r (is-size g) i a b m) (showed-off m)
 
   -- ---- offering
 
   -- a record is kept
-  keep-good : (p : ℕ) (M : Row) (H : History) → Kept (keeping r p M) → acceptedOf (keeping r p M) ≡ lay (acceptedOf r) p M → Fits (r .kind) (length roster) (lay (acceptedOf r) p M) H → Good (r .kind) roster (keeping r p M)
-  keep-good p M H t e f = record {
-    is-kind = kept-kind r p M;
-    is-roster = kept-roster r p M ∙ g .is-roster;
-    is-size = kept-size r p M ∙ g .is-size;
+  keep-good : (p : ℕ) (M : Row) (H : History) → keeping r p M ≡ holding (r .kind) roster (lay (acceptedOf r) p M) → acceptedOf (keeping r p M) ≡ lay (acceptedOf r) p M
+      → Fits (r .kind) (length roster) (lay (acceptedOf r) p M) H → Good (r .kind) roster (keeping r p M)
+  keep-good p M H h e f = record {
+    held = record { few = g .sound .few; is = h ∙ ap (holding (r .kind) roster) (sym e) };
     sound = g .sound;
     below = g .below;
-    all-serials = kept-serials r p M ∙ g .all-serials;
-    all-rows = kept-rows r p M ∙ g .all-rows;
-    kept = t;
     some = H;
     fits = subst (λ (A : Accepted). Fits (r .kind) (length roster) A H) (sym e) f;
   }
@@ -184,8 +185,8 @@ module _ {roster : List ℕ} {r : Recovery} (g : Good (r .kind) roster r) where
           N = acceptedOf r .row (x .own)
 
           go : (t : Bool) → same n M N ≡ t → Does (entered r (x .own) M)
-          go true e = rw (call.entered-again r (g .is-size) (x .own) M b true e) (repeats s b (rows-equal n M N mourned-on (row-inside (x .own)) e), g)
-          go false e = rw (call.entered-again r (g .is-size) (x .own) M b false e) (differs s b (λ h. clash (same-intro n M N (λ q _. ap (λ (S : Row). S q) h)) e), g)
+          go true e = rw (call.entered-again r (is-size g) (x .own) M b true e) (repeats s b (rows-equal n M N mourned-on (row-inside (x .own)) e), g)
+          go false e = rw (call.entered-again r (is-size g) (x .own) M b false e) (differs s b (λ h. clash (same-intro n M N (λ q _. ap (λ (S : Row). S q) h)) e), g)
 
       new-step : acceptedOf r .returned (x .own) ≡ false → Does (entered r (x .own) (x .mourned))
       unfolding Does offerSays saying
@@ -201,20 +202,20 @@ module _ {roster : List ℕ} {r : Recovery} (g : Good (r .kind) roster r) where
           iff = accepts-iff (r .kind) (g .fits) (x .own) M b own-on mourned-on
 
           on : x .own < sizeOf r
-          on = rw (g .is-size) own-on
+          on = rw (is-size g) own-on
 
           M-on : (q : ℕ) → M q ≡ true → q < sizeOf r
-          M-on q e = rw (g .is-size) (mourned-on q e)
+          M-on q e = rw (is-size g) (mourned-on q e)
 
           laid-on : acceptedOf (keeping r (x .own) M) ≡ lay (acceptedOf r) (x .own) M
-          laid-on = kept-accepted r (x .own) M (g .all-rows) on M-on
+          laid-on = kept-accepted r (x .own) M (held-table (g .held)) on M-on
 
           go : (t : Bool) → accepts (r .kind) n (acceptedOf r) (x .own) M ≡ t → Does (entered r (x .own) M)
           go true e =
               let f = iff .0 e in
-              rw (call.entered-new r (g .is-size) (x .own) M b true e)
-              (subst (λ (B : Accepted). Dictates (r .kind) roster (acceptedOf r) (offer bytes) (says D.taken) B) (sym laid-on) (takes s b (f .1)), keep-good (x .own) M (f .0) (keeping-kept r (x .own) M (g .kept) (g .all-rows) on M-on b) laid-on (f .1))
-          go false e = rw (call.entered-new r (g .is-size) (x .own) M b false e) (none-fits s b (λ H f. clash (iff .1 (H, f)) e), g)
+              rw (call.entered-new r (is-size g) (x .own) M b true e)
+              (subst (λ (B : Accepted). Dictates (r .kind) roster (acceptedOf r) (offer bytes) (says D.taken) B) (sym laid-on) (takes s b (f .1)), keep-good (x .own) M (f .0) (keeping-holds (g .held) (x .own) M b own-on) laid-on (f .1))
+          go false e = rw (call.entered-new r (is-size g) (x .own) M b false e) (none-fits s b (λ H f. clash (iff .1 (H, f)) e), g)
 
       enter-step : Does (entered r (x .own) (x .mourned))
       enter-step = go (split (acceptedOf r .returned (x .own)))
@@ -230,10 +231,10 @@ module _ {roster : List ℕ} {r : Recovery} (g : Good (r .kind) roster r) where
         go : (t : Bool) → ofGroup r x ≡ t → Does (offered r bytes)
         go true h =
             let w = call.group-elim r x h in
-            rw (call.offered-entered r bytes x rest e (w .0) (w .1)) (enter-step x (record { rest = rest; reads = e; same-kind = w .0; same-roster = w .1 ∙ g .is-roster }))
+            rw (call.offered-entered r bytes x rest e (w .0) (w .1)) (enter-step x (record { rest = rest; reads = e; same-kind = w .0; same-roster = w .1 ∙ is-roster g }))
         go false h =
             let z : ¬ ((x .kind ≡ r .kind) × (x .roster ≡ rosterOf r)) = λ w. clash (call.group-intro r x (w .0) (w .1)) h in
-            rw (call.offered-foreign r bytes x rest e z) (foreign e (λ w. z (w .0, w .1 ∙ sym (g .is-roster))), g)
+            rw (call.offered-foreign r bytes x rest e z) (foreign e (λ w. z (w .0, w .1 ∙ sym (is-roster g))), g)
 
     offer-step : Does (offered r bytes)
     unfolding Does offerSays saying
@@ -260,34 +261,34 @@ module _ {roster : List ℕ} {r : Recovery} (g : Good (r .kind) roster r) where
 
       on : 16 * n ≤ length h → offRoster n H ≡ false → (t : Bool) → fitsTest (r .kind) n (acceptedOf r) H ≡ t
           → Dictates (r .kind) roster (acceptedOf r) (check h) (says (checkedSays (checked r h))) (acceptedOf r)
-      on l e true f = rw (call.checked-on r (g .is-size) h l e true f) (checked-fits l (iff e .0 f))
-      on l e false f = rw (call.checked-on r (g .is-size) h l e false f) (checked-not l (λ p q x. rows-on n h e p q x .1) (λ y. clash (iff e .1 y) f))
+      on l e true f = rw (call.checked-on r (is-size g) h l e true f) (checked-fits l (iff e .0 f))
+      on l e false f = rw (call.checked-on r (is-size g) h l e false f) (checked-not l (λ p q x. rows-on n h e p q x .1) (λ y. clash (iff e .1 y) f))
 
       long : 16 * n ≤ length h → (t : Bool) → offRoster n H ≡ t → Dictates (r .kind) roster (acceptedOf r) (check h) (says (checkedSays (checked r h))) (acceptedOf r)
-      long l true e = let w = off-there n H e in rw (call.checked-off r (g .is-size) h l e) (checked-off (w .0) (w .1) l (w .2) (w .3))
+      long l true e = let w = off-there n H e in rw (call.checked-off r (is-size g) h l e) (checked-off (w .0) (w .1) l (w .2) (w .3))
       long l false e = on l e (fitsTest (r .kind) n (acceptedOf r) H) refl
 
       go : Dec (length h < 16 * n) → Dictates (r .kind) roster (acceptedOf r) (check h) (says (checkedSays (checked r h))) (acceptedOf r)
-      go (yes l) = rw (call.checked-short r (g .is-size) h l) (checked-short l)
+      go (yes l) = rw (call.checked-short r (is-size g) h l) (checked-short l)
       go (no l) = long (omega arith) (offRoster n H) refl
 
   -- ---- the whole, the two sets and the number
 
   whole-step : Dictates (r .kind) roster (acceptedOf r) whole (says (cond (settledOf r) D.settled D.unsettled)) (acceptedOf r)
-  whole-step = rw (call.settled-is r (g .is-size), kept-settled (g .is-size) (g .kept)) (go (settled (r .kind) (length roster) (acceptedOf r)) refl)
+  whole-step = rw (call.settled-is r (is-size g), kept-settled (g .held)) (go (settled (r .kind) (length roster) (acceptedOf r)) refl)
     where
       go : (t : Bool) → settled (r .kind) (length roster) (acceptedOf r) ≡ t → Dictates (r .kind) roster (acceptedOf r) whole (says (cond t D.settled D.unsettled)) (acceptedOf r)
       go true e = whole-settled (settled-iff (g .fits) .0 e)
       go false e = let w = unsettled (g .fits) e in whole-open (w .1) (w .2)
 
   unmourned-step : Dictates (r .kind) roster (acceptedOf r) unmourned (places (unmournedOf r)) (acceptedOf r)
-  unmourned-step = rw (kept-unmourned (g .is-size) (g .kept)) (gave-unmourned (unmourned-iff (g .fits)))
+  unmourned-step = rw (kept-unmourned (g .held)) (gave-unmourned (unmourned-iff (g .fits)))
 
   absent-step : Dictates (r .kind) roster (acceptedOf r) unmourned-absent (places (unmournedAbsentOf r)) (acceptedOf r)
-  absent-step = rw (kept-absent (g .is-size) (g .kept)) (gave-absent (unmourned-iff (g .fits)) (unmourned-absent-iff (length roster) (acceptedOf r)))
+  absent-step = rw (kept-absent (g .held)) (gave-absent (unmourned-iff (g .fits)) (unmourned-absent-iff (length roster) (acceptedOf r)))
 
   count-step : Dictates (r .kind) roster (acceptedOf r) unmourned-count (number (unmournedCountOf r)) (acceptedOf r)
-  count-step = rw (kept-count (g .is-size) (g .kept)) (gave-count (unmourned-iff (g .fits)))
+  count-step = rw (kept-count (g .held)) (gave-count (unmourned-iff (g .fits)))
 
   -- ---- the place of a serial
 
@@ -296,16 +297,16 @@ module _ {roster : List ℕ} {r : Recovery} (g : Good (r .kind) roster r) where
   find-step x = go (decLt (placeOf x (rosterOf r)) (length (rosterOf r)))
     where
       go : Dec (placeOf x (rosterOf r) < length (rosterOf r)) → Dictates (r .kind) roster (acceptedOf r) (find x) (foundGives (foundIn r x)) (acceptedOf r)
-      go (yes l) = rw (call.found-there r x l, g .is-roster) (let m = rw (g .is-roster) at l in found-at m (place-stands x roster m))
+      go (yes l) = rw (call.found-there r x l, is-roster g) (let m = rw (is-roster g) at l in found-at m (place-stands x roster m))
       go (no l) =
           let m : length (rosterOf r) ≤ placeOf x (rosterOf r) = omega arith in
-          rw (call.found-nowhere r x m) (found-none (holds-nowhere x roster (past-holds x roster (rw (g .is-roster) at m))))
+          rw (call.found-nowhere r x m) (found-none (holds-nowhere x roster (past-holds x roster (rw (is-roster g) at m))))
 
   -- ---- writing a returned record
 
   pub record-is : (p : ℕ) → recordOf r p ≡ recordIn (r .kind) roster (acceptedOf r) p
   unfolding recordOf
-  record-is p = λ i. record { kind = r .kind; own = p; roster = g .is-roster i; mourned = acceptedOf r .row p }
+  record-is p = λ i. record { kind = r .kind; own = p; roster = is-roster g i; mourned = acceptedOf r .row p }
 
   pub record-stored : (p : ℕ) → p < length roster → IsStored (recordOf r p)
   record-stored p l = rw (record-is p) (record { roster = g .sound; below = g .below; own = l; mourned = row-inside p })
@@ -328,17 +329,17 @@ module _ {roster : List ℕ} {r : Recovery} (g : Good (r .kind) roster r) where
 
       back : p < n → acceptedOf r .returned p ≡ true → Dec (length out < at + length (layout (recordOf r p)))
           → Dictates (r .kind) roster (acceptedOf r) (write p out at) (writtenGives (writtenOf r p out at)) (acceptedOf r)
-      back l b (yes u) = rw (call.written-short r (g .is-size) p out at l b u) (wrote-short l b (rw (record-is p) at u))
-      back l b (no u) = let v : at + length (layout (recordOf r p)) ≤ length out = omega arith in rw (call.written-at r (g .is-size) p out at l b v) (lays l b v)
+      back l b (yes u) = rw (call.written-short r (is-size g) p out at l b u) (wrote-short l b (rw (record-is p) at u))
+      back l b (no u) = let v : at + length (layout (recordOf r p)) ≤ length out = omega arith in rw (call.written-at r (is-size g) p out at l b v) (lays l b v)
 
       on : p < n → (acceptedOf r .returned p ≡ true) ⊎ (acceptedOf r .returned p ≡ false)
           → Dictates (r .kind) roster (acceptedOf r) (write p out at) (writtenGives (writtenOf r p out at)) (acceptedOf r)
       on l (inl b) = back l b (decLt (length out) (at + length (layout (recordOf r p))))
-      on l (inr b) = rw (call.written-absent r (g .is-size) p out at l b) (wrote-absent l b)
+      on l (inr b) = rw (call.written-absent r (is-size g) p out at l b) (wrote-absent l b)
 
       go : Dec (p < n) → Dictates (r .kind) roster (acceptedOf r) (write p out at) (writtenGives (writtenOf r p out at)) (acceptedOf r)
       go (yes l) = on l (split (acceptedOf r .returned p))
-      go (no l) = let m : n ≤ p = omega arith in rw (call.written-off r (g .is-size) p out at m) (wrote-off m)
+      go (no l) = let m : n ≤ p = omega arith in rw (call.written-off r (is-size g) p out at m) (wrote-off m)
 
   -- ---- any call
 
@@ -357,15 +358,15 @@ module _ {roster : List ℕ} {r : Recovery} (g : Good (r .kind) roster r) where
 
 module _ {k : Kind} {roster : List ℕ} {r : Recovery} (g : Good k roster r) where
   pub own : Good (r .kind) roster r
-  own = subst (λ (j : Kind). Good j roster r) (sym (g .is-kind)) g
+  own = subst (λ (j : Kind). Good j roster r) (sym (is-kind g)) g
 
   -- a single call has the outcome that is dictated
   pub step : (c : Call) → Dictates k roster (acceptedOf r) c (outcome r c) (acceptedOf (next r c))
-  step c = subst (λ (j : Kind). Dictates j roster (acceptedOf r) c (outcome r c) (acceptedOf (next r c))) (g .is-kind) (own-step own c .0)
+  step c = subst (λ (j : Kind). Dictates j roster (acceptedOf r) c (outcome r c) (acceptedOf (next r c))) (is-kind g) (own-step own c .0)
 
   -- and leaves a good recovery
   pub good-next : (c : Call) → Good k roster (next r c)
-  good-next c = subst (λ (j : Kind). Good j roster (next r c)) (g .is-kind) (own-step own c .1)
+  good-next c = subst (λ (j : Kind). Good j roster (next r c)) (is-kind g) (own-step own c .1)
 
 -- ---- any list of calls
 
@@ -383,16 +384,10 @@ demand-from g (c ∷ cs) = then (step g c) (demand-from (good-next g c) cs)
 
 module _ (kind : ℕ) (roster : List ℕ) (f : Free kind roster) where
   fresh-good : Good (kindOf kind) roster (fresh (kindOf kind) roster)
-  unfolding fresh
   fresh-good = record {
-    is-kind = refl;
-    is-roster = fresh-roster (kindOf kind) roster (f .sound .few);
-    is-size = fresh-size (kindOf kind) roster (f .sound .few);
+    held = record { few = f .sound .few; is = fresh-holds (kindOf kind) roster ∙ ap (holding (kindOf kind) roster) (sym (fresh-accepted (kindOf kind) roster)) };
     sound = f .sound;
     below = f .serials;
-    all-serials = fresh-serials (kindOf kind) roster (f .sound .few);
-    all-rows = fresh-rows (kindOf kind) roster;
-    kept = fresh-kept (kindOf kind) roster;
     some = λ p. nothing;
     fits = subst (λ (A : Accepted). Fits (kindOf kind) (length roster) A (λ p. nothing)) (sym (fresh-accepted (kindOf kind) roster)) (none-fitted (kindOf kind) (length roster));
   }

@@ -70,9 +70,6 @@ off-there n H e =
     let q = b .0 in
     (p, q, and-right (leb n q) (H p q) (b .2), leb-true n q (and-left (leb n q) (H p q) (b .2)))
 
-pub off-none : (n : ℕ) (H : History) → ((p q : ℕ) → H p q ≡ true → q < n) → offRoster n H ≡ false
-off-none n H on = is-false (offRoster n H) (λ e. let w = off-there n H e in omega (arith, on (w .0) (w .1) (w .2), w .3))
-
 pub rows-on : (n : ℕ) (h : List ℕ) → offRoster n (historyIn n h) ≡ false → (p q : ℕ) → historyIn n h p q ≡ true → (p < n) × (q < n)
 unfolding offRoster
 rows-on n h e p q t = (i .0, go (decLt q n))

@@ -2,31 +2,32 @@
 -- Assumes nothing.
 use mathlib.Core.Path.{_≡_, refl, sym, ap, ap₂, _∙_, fun-ext}
 use mathlib.Core.Bool.{Bool, true, false, cond, _&&_, _||_, and-false}
-use mathlib.Core.Logic.{_⊎_, inl, inr}
-use mathlib.Core.List.{List}
+use mathlib.Core.List.{List, _++_}
 use Prim.Native.Nat.{ℕ, _-_, _*_, _<_, _≤_}
 use native.Mathlib.Omega.{arith}
-use lib.ListN.{length, replicate, length-append, length-replicate}
+use native.Mathlib.Decide.{decLt}
+use lib.ListN.{length, take, replicate}
 use lib.Seq.{take-append-seam}
 use lib.Dec.{eqb, ltb, leb}
 use borrow.Author.Tests.{eqb-true, eqb-false, lt-ltb, le-leb, ltb-true, leb-true, ne-eqb}
-use Rattle.places.specs.Sets.{Places, nothing, below, union, difference, with, count, lowest}
+use Rattle.places.specs.Sets.{Places, nothing, below, union, difference, with, any, count, lowest}
 use Rattle.places.specs.PlaceSets.{has, packed}
 use Rattle.places.specs.declared.PlaceSet.{PlaceSet}
-use Rattle.places.proofs.Booleans.{clash, and-left, or-cases}
-use Rattle.places.proofs.Tests.{none-any}
-use Rattle.places.proofs.Laws.{kept-all, kept-with, has-packed, has-below}
+use Rattle.places.proofs.Booleans.{clash, is-false, and-left, and-right}
+use Rattle.places.proofs.Tests.{none-any, any-elim}
+use Rattle.places.proofs.Laws.{kept-all, kept-with, has-packed}
 use Rattle.histories.specs.declared.Kind.{Kind}
 use Rattle.histories.specs.Histories.{Row, History, Accepted, none, lay}
 use Rattle.histories.specs.Rule.{is-open, recorded, mourned, blockersBy, blockers, answerBy, answer, settledBy, settled, unmourned, unmournedAbsent, inherited, grown, second}
 use Rattle.histories.proofs.Accepts.{laid-recorded, laid-mourned}
-use Rattle.rows.specs.Rows.{noRows, rowsOf, withRow, laid}
-use Rattle.rows.proofs.Laws.{rows-of, no-rows-length, rows-with, rows-other, with-length}
+use Rattle.rows.specs.Rows.{noRows, rowsOf, withRow, tableOf, laid}
+use Rattle.rows.proofs.Laws.{rows-of, rows-with, rows-other}
+use Rattle.rows.proofs.Tables.{no-table, table-length, table-rows, table-past, with-table}
 use Rattle.answers.specs.Views.{size, acceptedIn}
 use Rattle.shows.specs.Shows.{replaced}
 use Rattle.shows.specs.declared.Showing.the-variants as S
 use Rattle.recovery.specs.declared.Recovery.{Recovery}
-use Rattle.recovery.specs.Contracts.{sizeOf, rosterOf, acceptedOf, Kept, fresh, keeping, shown, unmournedOf, unmournedAbsentOf, unmournedCountOf}
+use Rattle.recovery.specs.Contracts.{sizeOf, rosterOf, acceptedOf, holding, fresh, keeping, shown, unmournedOf, unmournedAbsentOf, unmournedCountOf}
 use Rattle.recovery.proofs.Calls.{shown-both, unmourned-is}
 
 -- ---- any recovery
@@ -51,10 +52,6 @@ row-on r p q e = ltb-true q (size (r .count)) (and-left (ltb q (size (r .count))
 -- ---- a fresh one
 
 module _ (k : Kind) (s : List ℕ) where
-  pub fresh-rows : length (fresh k s .rows) ≡ 2048
-  unfolding fresh
-  fresh-rows = no-rows-length
-
   -- nobody is back
   pub fresh-accepted : acceptedOf (fresh k s) ≡ none
   unfolding acceptedOf acceptedIn fresh
@@ -69,18 +66,11 @@ module _ (k : Kind) (s : List ℕ) where
       no-row : (p q : ℕ) → ltb q n && rowsOf noRows p q ≡ false
       no-row p q = ap (λ (S : Places). ltb q n && S q) (rows-of p) ∙ and-false (ltb q n)
 
-  module _ (few : length s ≤ 128) where
-    pub fresh-size : sizeOf (fresh k s) ≡ length s
-    unfolding sizeOf size fresh
-    fresh-size = rw (le-leb (length s) 128 few)
-
-    pub fresh-roster : rosterOf (fresh k s) ≡ s
-    unfolding rosterOf fresh
-    fresh-roster = rw fresh-size (take-append-seam s (replicate (128 - length s) 0))
-
-    pub fresh-serials : length (fresh k s .serials) ≡ 128
-    unfolding fresh
-    fresh-serials = length-append s (replicate (128 - length s) 0) ∙ omega (arith, length-replicate {0} {A = ℕ} (128 - length s) 0)
+  -- it holds no record
+  pub fresh-holds : fresh k s ≡ holding k s none
+  unfolding fresh holding mourned recorded
+  fresh-holds = ap₂ (λ (M : Row) (w : List ℕ). record { kind = k; count = length s; serials = s ++ replicate (128 - length s) 0; returned = packed nothing; mourned = packed M; rows = w })
+      (fun-ext (λ q. sym (none-any (length s) (λ p. recorded none p q) (λ p l. refl)))) (sym no-table)
 
 -- ---- one that keeps a record
 
@@ -120,94 +110,118 @@ module _ (r : Recovery) (p : ℕ) (M : Row) where
     row = λ x q. kept-row (sizeOf r) p (size-few r) on M M-on (r .rows) all x q i;
   }
 
-  -- all else is as it was
-  pub kept-kind : keeping r p M .kind ≡ r .kind
-  unfolding keeping
-  kept-kind = refl
+-- ---- one that holds its records, and nothing else
 
-  pub kept-size : sizeOf (keeping r p M) ≡ sizeOf r
-  unfolding sizeOf keeping
-  kept-size = refl
+pub record Held (k : Kind) (roster : List ℕ) (r : Recovery) : Type 0 where
+  pub few : length roster ≤ 128
+  pub is : r ≡ holding k roster (acceptedOf r)
 
-  pub kept-roster : rosterOf (keeping r p M) ≡ rosterOf r
-  unfolding rosterOf sizeOf keeping
-  kept-roster = refl
+module _ {k : Kind} {roster : List ℕ} {r : Recovery} (h : Held k roster r) where
+  pub held-kind : r .kind ≡ k
+  unfolding holding
+  held-kind = ap (λ (r : Recovery). r .kind) (h .is)
 
-  pub kept-serials : length (keeping r p M .serials) ≡ length (r .serials)
-  unfolding keeping
-  kept-serials = refl
+  pub held-count : r .count ≡ length roster
+  unfolding holding
+  held-count = ap (λ (r : Recovery). r .count) (h .is)
 
-  pub kept-rows : length (keeping r p M .rows) ≡ length (r .rows)
-  unfolding keeping
-  kept-rows = with-length (r .rows) p (packed M)
+  pub held-size : sizeOf r ≡ length roster
+  unfolding sizeOf size
+  held-size = ap size held-count ∙ rw (le-leb (length roster) 128 (h .few))
 
--- ---- what is kept
+  pub held-roster : rosterOf r ≡ roster
+  unfolding rosterOf holding
+  held-roster = ap₂ take held-size (ap (λ (r : Recovery). r .serials) (h .is)) ∙ take-append-seam roster (replicate (128 - length roster) 0)
 
--- nobody is mourned, and every row is empty
-pub fresh-kept : (k : Kind) (s : List ℕ) → Kept (fresh k s)
-unfolding fresh mourned recorded
-fresh-kept k s = record {
-  mourned = has-packed nothing ∙ fun-ext (λ q. sym (none-any n (λ p. recorded none p q) (λ p l. refl))) ∙ ap (mourned n) (sym (fresh-accepted k s));
-  rows = fun-ext (λ p. rows-of p ∙ ap (λ (A : Accepted). recorded A p) (sym (fresh-accepted k s)));
-}
-  where
-    n : ℕ
-    n = sizeOf (fresh k s)
+  pub held-table : length (r .rows) ≡ 2048
+  unfolding holding
+  held-table = ap (λ (r : Recovery). length (r .rows)) (h .is) ∙ table-length (recorded (acceptedOf r))
 
--- the new record's places join the mourned ones, and its row the others
-module _ (r : Recovery) (p : ℕ) (M : Row) (t : Kept r) (all : length (r .rows) ≡ 2048) (on : p < sizeOf r) (M-on : (q : ℕ) → M q ≡ true → q < sizeOf r) where
-  small : (q : ℕ) → M q ≡ true → q < 128
-  small q e = omega (arith, M-on q e, size-few r)
+  -- who is back
+  pub held-returned : has (r .returned) ≡ acceptedOf r .returned
+  unfolding holding
+  held-returned = ap (λ (r : Recovery). has (r .returned)) (h .is) ∙ has-packed (acceptedOf r .returned) ∙ kept-all (acceptedOf r .returned) (λ p e. omega (arith, returned-on r p e, size-few r))
 
-  pub keeping-kept : acceptedOf r .returned p ≡ false → Kept (keeping r p M)
-  unfolding keeping sizeOf
-  keeping-kept absent = record {
-    mourned = has-packed (union (has (r .mourned)) M) ∙ kept-all (union (has (r .mourned)) M) (λ q e. both q (or-cases (has (r .mourned) q) (M q) e))
-        ∙ ap (λ (S : Places). union S M) (t .mourned) ∙ sym (laid-mourned (sizeOf r) (acceptedOf r) p M absent on) ∙ ap (mourned (sizeOf r)) (sym laid-on);
-    rows = fun-ext (λ x. at x (eqb x p) refl ∙ sym (laid-recorded (acceptedOf r) p M x) ∙ ap (λ (A : Accepted). recorded A x) (sym laid-on));
+  -- the mourned places are those that the records name
+  pub held-mourned : has (r .mourned) ≡ mourned (length roster) (acceptedOf r)
+  unfolding holding mourned recorded
+  held-mourned = ap (λ (r : Recovery). has (r .mourned)) (h .is) ∙ has-packed (mourned n A) ∙ kept-all (mourned n A) small
+    where
+      n : ℕ
+      n = length roster
+
+      A : Accepted
+      A = acceptedOf r
+
+      small : (q : ℕ) → any n (λ p. A .returned p && A .row p q) ≡ true → q < 128
+      small q e =
+          let w = any-elim n (λ p. A .returned p && A .row p q) e in
+          omega (arith, row-on r (w .0) q (and-right (A .returned (w .0)) (A .row (w .0) q) (w .2)), size-few r)
+
+  -- and the rows are the recorded ones
+  pub held-rows : rowsOf (r .rows) ≡ recorded (acceptedOf r)
+  unfolding holding recorded
+  held-rows = ap (λ (r : Recovery). rowsOf (r .rows)) (h .is) ∙ fun-ext (λ p. go p (decLt p 128))
+    where
+      A : Accepted
+      A = acceptedOf r
+
+      small : (p q : ℕ) → recorded A p q ≡ true → (p < 128) × (q < 128)
+      small p q e = (omega (arith, returned-on r p (and-left (A .returned p) (A .row p q) e), size-few r), omega (arith, row-on r p q (and-right (A .returned p) (A .row p q) e), size-few r))
+
+      go : (p : ℕ) → Dec (p < 128) → rowsOf (tableOf (recorded A)) p ≡ recorded A p
+      go p (yes l) = table-rows (recorded A) p l ∙ kept-all (recorded A p) (λ q e. small p q e .1)
+      go p (no l) = table-past (recorded A) p (omega arith) ∙ fun-ext (λ q. sym (is-false (recorded A p q) (λ e. l (small p q e .0))))
+
+  -- a new record joins the others
+  pub keeping-holds : (p : ℕ) (M : Row) → acceptedOf r .returned p ≡ false → p < length roster → keeping r p M ≡ holding k roster (lay (acceptedOf r) p M)
+  unfolding keeping holding
+  keeping-holds p M absent on = λ i. record {
+    kind = held-kind i;
+    count = held-count i;
+    serials = h .is i .serials;
+    returned = packed (with p (held-returned i));
+    mourned = named i;
+    rows = table i;
   }
     where
-      laid-on : acceptedOf (keeping r p M) ≡ lay (acceptedOf r) p M
-      laid-on = kept-accepted r p M all on M-on
+      A : Accepted
+      A = acceptedOf r
 
-      both : (q : ℕ) → (has (r .mourned) q ≡ true) ⊎ (M q ≡ true) → q < 128
-      both q (inl e) = has-below (r .mourned) q e
-      both q (inr e) = small q e
+      named : packed (union (has (r .mourned)) M) ≡ packed (mourned (length roster) (lay A p M))
+      named = ap (λ (S : Places). packed (union S M)) held-mourned ∙ ap packed (sym (laid-mourned (length roster) A p M absent on))
 
-      at : (x : ℕ) (b : Bool) → eqb x p ≡ b → rowsOf (withRow (r .rows) p (packed M)) x ≡ cond b M (recorded (acceptedOf r) x)
-      at x true e =
-          ap (rowsOf (withRow (r .rows) p (packed M))) (eqb-true x p e) ∙ rows-with (r .rows) p (packed M) all (omega (arith, size-few r)) ∙ has-packed M ∙ kept-all M small
-      at x false e = rows-other (r .rows) p x (packed M) (eqb-false x p e) ∙ ap (λ (H : History). H x) (t .rows)
+      table : withRow (r .rows) p (packed M) ≡ tableOf (recorded (lay A p M))
+      table = ap (λ (r : Recovery). withRow (r .rows) p (packed M)) (h .is) ∙ with-table (recorded A) p M (omega (arith, h .few)) ∙ ap tableOf (sym (fun-ext (laid-recorded A p M)))
 
--- ---- the calls of one that has kept all: what they give is the rule's
+  -- ---- its calls: what they give is the rule's
 
-module _ {r : Recovery} {n : ℕ} (is : sizeOf r ≡ n) (t : Kept r) where
-  named : has (r .mourned) ≡ mourned n (acceptedOf r)
-  named = t .mourned ∙ ap (λ (m : ℕ). mourned m (acceptedOf r)) is
+  abbrev n : ℕ
+  n = length roster
 
   pub kept-answer : (i : ℕ) → answerBy (r .kind) n (acceptedOf r) (has (r .mourned)) i ≡ answer (r .kind) n (acceptedOf r) i
   unfolding answer
-  kept-answer i = ap (λ (M : Row). answerBy (r .kind) n (acceptedOf r) M i) named
+  kept-answer i = ap (λ (M : Row). answerBy (r .kind) n (acceptedOf r) M i) held-mourned
 
   pub kept-settled : settledBy (r .kind) n (acceptedOf r) (has (r .mourned)) ≡ settled (r .kind) n (acceptedOf r)
   unfolding settled
-  kept-settled = ap (settledBy (r .kind) n (acceptedOf r)) named
+  kept-settled = ap (settledBy (r .kind) n (acceptedOf r)) held-mourned
 
   kept-second : (i : ℕ)
       → replaced (rowsOf (r .rows)) (lowest n (blockersBy (r .kind) n (acceptedOf r) (has (r .mourned)) i)) (with i (inherited (r .kind) (acceptedOf r) i)) ≡ second (r .kind) n (acceptedOf r) i
   unfolding replaced second grown blockers
   kept-second i =
-      ap₂ (λ (H : History) (M : Row). replaced H (lowest n (blockersBy (r .kind) n (acceptedOf r) M i)) (with i (inherited (r .kind) (acceptedOf r) i))) (t .rows) named
+      ap₂ (λ (H : History) (M : Row). replaced H (lowest n (blockersBy (r .kind) n (acceptedOf r) M i)) (with i (inherited (r .kind) (acceptedOf r) i))) held-rows held-mourned
 
   pub kept-shown : (i : ℕ) (a b : List ℕ) → i < n → answer (r .kind) n (acceptedOf r) i ≡ is-open → 16 * n ≤ length a → 16 * n ≤ length b
       → shown r i a b ≡ record { answer = S.Shown; first = laid n (recorded (acceptedOf r)) a; second = laid n (second (r .kind) n (acceptedOf r) i) b }
   kept-shown i a b l e u v =
-      shown-both r is i a b l (kept-answer i ∙ e) u v
-      ∙ ap₂ (λ (F G : History). record { answer = S.Shown; first = laid n F a; second = laid n G b }) (t .rows) (kept-second i)
+      shown-both r held-size i a b l (kept-answer i ∙ e) u v
+      ∙ ap₂ (λ (F G : History). record { answer = S.Shown; first = laid n F a; second = laid n G b }) held-rows (kept-second i)
 
   pub kept-unmourned : unmournedOf r ≡ unmourned n (acceptedOf r)
   unfolding unmourned
-  kept-unmourned = unmourned-is r is ∙ ap (difference (below n)) named
+  kept-unmourned = unmourned-is r held-size ∙ ap (difference (below n)) held-mourned
 
   pub kept-absent : unmournedAbsentOf r ≡ unmournedAbsent n (acceptedOf r)
   unfolding unmournedAbsentOf unmournedAbsent
@@ -215,4 +229,4 @@ module _ {r : Recovery} {n : ℕ} (is : sizeOf r ≡ n) (t : Kept r) where
 
   pub kept-count : unmournedCountOf r ≡ count n (unmourned n (acceptedOf r))
   unfolding unmournedCountOf
-  kept-count = ap₂ count is kept-unmourned
+  kept-count = ap₂ count held-size kept-unmourned

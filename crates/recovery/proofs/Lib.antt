@@ -7,7 +7,9 @@ pub mod Keeps
 pub mod Facts
 pub mod Calls
 pub mod Demand
+pub mod Dictated
 pub mod Single
+pub mod Later
 pub mod Trips
 pub mod Refuses
 pub mod Gives

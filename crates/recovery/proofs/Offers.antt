@@ -11,7 +11,6 @@ use Rattle.places.proofs.Laws.{has-packed, kept-all}
 use Rattle.histories.specs.Histories.{Row}
 use Rattle.records.specs.Layout.{Parsed, got, refused, Stored, stored, lone}
 use Rattle.records.specs.declared.Record.{Record}
-use Rattle.records.specs.declared.Reading.{Reading}
 use Rattle.records.specs.declared.Reading.the-variants.{Read, Refused}
 use Rattle.records.specs.Records.{readingOf, readingLone, sameList, rosterThere, rosterIs}
 use Rattle.records.proofs.Layouts.{stored-back}
@@ -21,7 +20,6 @@ use Rattle.replies.specs.declared.Reply.{Reply}
 use Rattle.replies.specs.declared.Reply.the-variants as O
 use Rattle.replies.specs.Replies.{sameKind, entering, judgement}
 use Rattle.recovery.specs.declared.Recovery.{Recovery}
-use Rattle.recovery.specs.declared.Offered.{Offered}
 use Rattle.recovery.specs.Contracts.{sizeOf, rosterOf, ofGroup, saying, keeping, answered, entered, judged, offeredAs, offered}
 use Rattle.recovery.proofs.Facts.{lone-on}
 

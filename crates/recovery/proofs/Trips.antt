@@ -1,13 +1,11 @@
 -- Records and histories there and back, on any recovery that an opening and calls can reach. Assumes nothing.
 use mathlib.Core.Path.{_≡_, refl, sym, ap, _∙_, subst}
 use mathlib.Core.Bool.{Bool, true, cond}
-use mathlib.Core.List.{List, [], _∷_}
+use mathlib.Core.List.{List}
 use Prim.Native.Nat.{ℕ, _+_, _*_, _≤_}
 use native.Mathlib.Omega.{arith}
 use lib.ListN.{length, drop}
-use lib.Dec.{eqb}
-use borrow.Author.Tests.{ne-eqb}
-use Rattle.places.proofs.Booleans.{clash, or-left, or-right, eqb-self}
+use Rattle.places.proofs.Booleans.{or-right, eqb-self}
 use Rattle.histories.specs.declared.Kind.{Kind}
 use Rattle.histories.specs.Histories.{History, Accepted, lay, Fits, Disagree}
 use Rattle.rows.specs.Rows.{historyIn}
@@ -23,60 +21,15 @@ use Rattle.shows.specs.declared.Showing.{Showing}
 use Rattle.shows.specs.declared.Showing.the-variants as S
 use Rattle.recovery.specs.declared.Checked.{Checked}
 use Rattle.recovery.specs.declared.Checked.the-variants as C
-use Rattle.recovery.specs.Contracts.{acceptedOf, opened, offered, shown, checked, recordOf, writtenOf}
+use Rattle.recovery.specs.Contracts.{acceptedOf, offered, shown, checked, recordOf, writtenOf}
 use Rattle.recovery.specs.Demand as D
-use Rattle.recovery.specs.Demand.{Free, Call, offer, show, check, Outcome, says, lent, OfGroup, Holds, recordIn, Dictates, faulty, foreign, repeats, differs, takes, none-fits, asked-off, asked-last, asked-not, asked-open, showed-off, showed-decided, showed-short, showed, checked-short, checked-off, checked-fits, checked-not, whole-settled, whole-open, gave-unmourned, gave-absent, gave-count, found-at, found-none, wrote-off, wrote-absent, wrote-short, wrote}
-use Rattle.recovery.specs.Run.{offerSays, showingSays, checkedSays, shownGives, outcome, next, left}
+use Rattle.recovery.specs.Demand.{Free, Call, offer, show, check, says, lent, OfGroup, Holds, recordIn, Dictates, takes, showed, checked-fits}
+use Rattle.recovery.specs.Run.{offerSays, showingSays, checkedSays, shownGives, outcome, next, left, reached}
 use Rattle.recovery.proofs.Calls.{written-at}
 use Rattle.recovery.proofs.Keeps.{returned-on}
-use Rattle.recovery.proofs.Demand.{Good, own, record-is, record-stored, step, good-next, good-after, good-left}
+use Rattle.recovery.proofs.Demand.{Good, is-kind, is-size, own, record-is, record-stored, step, good-next, good-after, good-left}
+use Rattle.recovery.proofs.Dictated.{within-left}
 use Rattle.recovery.proofs.Single.{plain, single}
-
--- what opening and some calls give
-abbrev pub reached : ℕ → List ℕ → List Call → Recovery
-reached kind roster cs = left (opened kind roster .recovery) cs
-
--- ---- an accepted record stays
-
-stays : {k : Kind} {roster : List ℕ} {A B : Accepted} {c : Call} {o : Outcome} → Dictates k roster A c o B → (p : ℕ) → A .returned p ≡ true → (B .returned p ≡ true) × (B .row p ≡ A .row p)
-stays {A = A} (takes {x = x} s b f) p e = (or-left (eqb p (x .own)) e, ap (λ (t : Bool). cond t (x .mourned) (A .row p)) (ne-eqb p (x .own) (λ q. clash e (rw q b))))
-stays (faulty a b d) p e = (e, refl)
-stays (foreign a b) p e = (e, refl)
-stays (repeats a b d) p e = (e, refl)
-stays (differs a b d) p e = (e, refl)
-stays (none-fits a b d) p e = (e, refl)
-stays (asked-off a) p e = (e, refl)
-stays (asked-last a b) p e = (e, refl)
-stays (asked-not a b) p e = (e, refl)
-stays (asked-open a b) p e = (e, refl)
-stays (showed-off a) p e = (e, refl)
-stays (showed-decided a b) p e = (e, refl)
-stays (showed-short a b d) p e = (e, refl)
-stays (showed a b d f m n) p e = (e, refl)
-stays (checked-short a) p e = (e, refl)
-stays (checked-off a b d f m) p e = (e, refl)
-stays (checked-fits a b) p e = (e, refl)
-stays (checked-not a b d) p e = (e, refl)
-stays (whole-settled a) p e = (e, refl)
-stays (whole-open a b) p e = (e, refl)
-stays (gave-unmourned a) p e = (e, refl)
-stays (gave-absent a b) p e = (e, refl)
-stays (gave-count a) p e = (e, refl)
-stays (found-at a b) p e = (e, refl)
-stays (found-none a) p e = (e, refl)
-stays (wrote-off a) p e = (e, refl)
-stays (wrote-absent a b) p e = (e, refl)
-stays (wrote-short a b d) p e = (e, refl)
-stays (wrote a b d f m n q) p e = (e, refl)
-
-stays-left : {k : Kind} {roster : List ℕ} {r : Recovery} → Good k roster r → (ds : List Call) (p : ℕ) → acceptedOf r .returned p ≡ true
-    → (acceptedOf (left r ds) .returned p ≡ true) × (acceptedOf (left r ds) .row p ≡ acceptedOf r .row p)
-unfolding left
-stays-left g [] p e = (e, refl)
-stays-left g (c ∷ ds) p e =
-    let s = stays (step g c) p e in
-    let t = stays-left (good-next g c) ds p (s .0) in
-    (t .0, t .1 ∙ s .1)
 
 -- ---- a record taken is written as its own bytes
 
@@ -134,10 +87,10 @@ module _ {k : Kind} {roster : List ℕ} {r : Recovery} (g : Good k roster r) (by
       good = good-after taken-good ds
 
       u : (acceptedOf r′ .returned (y .own) ≡ true) × (acceptedOf r′ .row (y .own) ≡ B .row (y .own))
-      u = stays-left taken-good ds (y .own) back
+      u = let w = within-left taken-good ds in (w .returned (y .own) back, w .row (y .own) back)
 
       kind : r′ .kind ≡ y .kind
-      kind = good .is-kind ∙ sym (s .same-kind)
+      kind = is-kind good ∙ sym (s .same-kind)
 
       list : roster ≡ y .roster
       list = sym (s .same-roster)
@@ -174,7 +127,7 @@ module _ {kind : ℕ} {roster : List ℕ} (f : Free kind roster) (cs : List Call
 
 module _ {k : Kind} {roster : List ℕ} {r : Recovery} (g : Good k roster r) (p : ℕ) (b : acceptedOf r .returned p ≡ true) where
   returned-stored : IsStored (recordOf r p)
-  returned-stored = record-stored (own g) p (rw (g .is-size) at (returned-on r p b))
+  returned-stored = record-stored (own g) p (rw (is-size g) at (returned-on r p b))
 
 module _ {kind : ℕ} {roster : List ℕ} (f : Free kind roster) (cs : List Call) (p : ℕ) (b : acceptedOf (reached kind roster cs) .returned p ≡ true)
     (out : List ℕ) (at : ℕ) (l : at + length (layout (recordOf (reached kind roster cs) p)) ≤ length out) where

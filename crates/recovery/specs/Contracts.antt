@@ -1,6 +1,5 @@
 -- What each call gives, and each lent byte afterwards, for every recovery and every input: the definitions that the contracts
 -- cite. Assumes nothing.
-use mathlib.Core.Path.{_≡_}
 use mathlib.Core.Bool.{Bool, cond, _&&_}
 use mathlib.Core.List.{List, [], _++_}
 use Prim.Native.Nat.{ℕ, _-_, _*_}
@@ -12,12 +11,11 @@ use Rattle.places.specs.declared.Found.{Found}
 use Rattle.histories.specs.declared.Kind.{Kind}
 use Rattle.histories.specs.declared.Kind.the-variants.{Full}
 use Rattle.histories.specs.Histories.{Row, History, Accepted}
-use Rattle.histories.specs.Rule as rule
-use Rattle.histories.specs.Rule.{Answer, is-last, not-last, is-open, recorded, answerBy, settledBy, fitsTest}
+use Rattle.histories.specs.Rule.{Answer, is-last, not-last, is-open, recorded, mourned, answerBy, settledBy, fitsTest}
 use Rattle.rosters.specs.Rosters.{placeOf, listed}
 use Rattle.rosters.specs.declared.Listed.{Listed}
 use Rattle.rosters.specs.declared.Listed.the-variants as L
-use Rattle.rows.specs.Rows.{noRows, rowsOf, withRow, historyIn}
+use Rattle.rows.specs.Rows.{noRows, rowsOf, withRow, tableOf, historyIn}
 use Rattle.records.specs.Layout.{Parsed, got, refused, knownKind, kindOf, Stored, lone, layout}
 use Rattle.records.specs.Records.{sameList, Written, unwritten, writtenAt}
 use Rattle.answers.specs.Views.{size, acceptedIn}
@@ -48,12 +46,19 @@ rosterOf r = take (sizeOf r) (r .serials)
 unfoldable pub acceptedOf : Recovery → Accepted
 acceptedOf r = acceptedIn (r .count) (has (r .returned)) (r .rows)
 
--- what holds of every recovery from its opening on (proofs/Demand.antt, `Good`): the mourned places that it keeps are those
--- that its accepted records name, and it has an empty row for each place that is not back. The calls go by what is kept, so
--- that asking need not collect it, and showing need not clean it
-pub record Kept (r : Recovery) : Type 0 where
-  pub mourned : has (r .mourned) ≡ rule.mourned (sizeOf r) (acceptedOf r)
-  pub rows : rowsOf (r .rows) ≡ recorded (acceptedOf r)
+-- the recovery of a group that has these records accepted, whatever came in between and in whatever order. Every recovery is such
+-- a one from its opening on (proofs/Demand.antt, `Good`): the mourned places that it keeps are those that its accepted records
+-- name, and it has an empty row for each place that is not back. The calls go by what is kept, so that asking need not collect it,
+-- and showing need not clean it
+unfoldable pub holding : Kind → List ℕ → Accepted → Recovery
+holding k roster A = record {
+  kind = k;
+  count = length roster;
+  serials = roster ++ replicate (128 - length roster) 0;
+  returned = packed (A .returned);
+  mourned = packed (mourned (length roster) A);
+  rows = tableOf (recorded A);
+}
 
 -- ---- opening: 2, then 3, 4, 5, or opened
 

@@ -2,6 +2,7 @@
 -- Assumes nothing.
 use mathlib.Core.Bool.{cond}
 use mathlib.Core.List.{List, [], _∷_}
+use Prim.Native.Nat.{ℕ}
 use Rattle.places.specs.declared.Found.{Found}
 use Rattle.places.specs.declared.Found.the-variants.{At, Nothing}
 use Rattle.records.specs.declared.Writing.{Writing}
@@ -19,7 +20,7 @@ use Rattle.shows.specs.declared.Showing.the-variants as S
 use Rattle.shows.specs.Shows.{Shown}
 use Rattle.recovery.specs.declared.Checked.{Checked}
 use Rattle.recovery.specs.declared.Checked.the-variants as C
-use Rattle.recovery.specs.Contracts.{offered, asked, shown, checked, settledOf, unmournedOf, unmournedAbsentOf, unmournedCountOf, foundIn, writtenOf}
+use Rattle.recovery.specs.Contracts.{opened, offered, asked, shown, checked, settledOf, unmournedOf, unmournedAbsentOf, unmournedCountOf, foundIn, writtenOf}
 use Rattle.recovery.specs.Demand as D
 use Rattle.recovery.specs.Demand.{Said, Call, offer, ask, show, check, whole, unmourned, unmourned-absent, unmourned-count, find, write, Outcome, says, lent, lent-one, places, number}
 
@@ -99,3 +100,7 @@ run r (c ∷ cs) = outcome r c ∷ run (next r c) cs
 unfoldable pub left : Recovery → List Call → Recovery
 left r [] = r
 left r (c ∷ cs) = left (next r c) cs
+
+-- the recovery after an opening and a list of calls
+abbrev pub reached : ℕ → List ℕ → List Call → Recovery
+reached kind roster cs = left (opened kind roster .recovery) cs

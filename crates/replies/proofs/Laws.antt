@@ -1,6 +1,6 @@
 -- One law for each way in which judging returns. Assumes nothing.
-use mathlib.Core.Path.{_≡_, refl, sym, ap, ap₂, _∙_}
-use mathlib.Core.Bool.{Bool, true, false, cond, _&&_}
+use mathlib.Core.Path.{_≡_, sym, ap, ap₂, _∙_}
+use mathlib.Core.Bool.{Bool, true, false, cond}
 use mathlib.Core.List.{List}
 use Prim.Native.Nat.{ℕ, _≤_, _<_}
 use native.Mathlib.Omega.{arith}
@@ -19,7 +19,6 @@ use Rattle.records.specs.declared.Record.{Record}
 use Rattle.records.specs.Records.{rosterIs}
 use Rattle.answers.specs.Views.{size, acceptedIn}
 use Rattle.answers.proofs.Views.{size-at-most, roster-is, accepted-on, cut-below, cut-same, recorded-back}
-use Rattle.replies.specs.declared.Reply.{Reply}
 use Rattle.replies.specs.declared.Reply.the-variants as O
 use Rattle.replies.specs.Replies.{sameKind, entering, judgement}
 

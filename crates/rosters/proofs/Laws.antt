@@ -265,10 +265,6 @@ pub from-past : (s : List ℕ) (i x : ℕ) → length s ≤ i → placeFrom i x 
 unfolding placeFrom
 from-past s i x l = rw (drop-of-length-le s l, holds-nil x)
 
-pub walk-done : (s : List ℕ) (i x : ℕ) → length s ≤ i → placeOf x (drop i s) ≡ 0
-unfolding placeOf
-walk-done s i x l = rw (drop-of-length-le s l)
-
 pub fault-done : (s : List ℕ) (i : ℕ) → length s ≤ i → firstFault (take i s) (drop i s) ≡ 0
 fault-done s i l = rw (drop-of-length-le s l) (fault-nil (take i s))
 

@@ -5,7 +5,7 @@ use Prim.Native.Nat.{ℕ, zero, suc, _+_, _-_, _≤_, _<_}
 use native.Mathlib.Omega.{arith}
 use native.Mathlib.Nat.{sub-zero, zero-sub}
 use native.Mathlib.Numerals.{add-one}
-use lib.ListN.{length, take, drop, getD, set, replicate}
+use lib.ListN.{length, drop, getD, set, replicate}
 use lib.Seq.{paste, paste-suc, take-all}
 use Rattle.rosters.specs.Rosters.{padded}
 

@@ -2,7 +2,7 @@
 use mathlib.Core.Path.{_≡_, refl, sym, ap, ap₂, _∙_, subst, fun-ext}
 use mathlib.Core.Logic.{_⊎_, inl, inr}
 use mathlib.Core.Bool.{Bool, true, false, cond, _&&_, and-true, and-false, and-comm}
-use mathlib.Core.List.{List, _++_, append-assoc, append-nil}
+use mathlib.Core.List.{List, _++_, append-assoc}
 use Prim.Native.Nat.{ℕ, zero, suc, _+_, _-_, _*_, _/_, _%_, _<_, _≤_}
 use native.Mathlib.Omega.{arith}
 use native.Mathlib.Nat.{mod-eq-of-lt}
@@ -195,10 +195,6 @@ rows-other w p q s d =
 pub with-past : (w : List ℕ) (p : ℕ) (s : PlaceSet) → length w ≡ 2048 → 128 ≤ p → withRow w p s ≡ w
 unfolding withRow
 with-past w p s n l = sym (put-misfits w (16 * p) (has s) (omega arith))
-
-pub with-length : (w : List ℕ) (p : ℕ) (s : PlaceSet) → length (withRow w p s) ≡ length w
-unfolding withRow
-with-length w p s = put-length w (16 * p) (has s)
 
 -- ---- rows one after another
 

@@ -9,9 +9,9 @@ use lib.ListN.{length, getD, drop, length-append}
 use lib.Seq.{take-all, drop-at}
 use borrow.Author.Tests.{eq-eqb, ne-eqb, lt-ltb}
 use Rattle.places.specs.Sets.{Places, nothing}
-use Rattle.places.specs.PlaceSets.{has, kept, packed}
+use Rattle.places.specs.PlaceSets.{has, kept, word, packed}
 use Rattle.places.proofs.Laws.{has-packed}
-use Rattle.rows.specs.Rows.{rowBytes, rowIn, rowsFrom, putRow, rowsOf, withRow, tableOf}
+use Rattle.rows.specs.Rows.{bytesFrom, rowBytes, rowIn, rowsFrom, putRow, noRows, rowsOf, withRow, tableOf}
 use Rattle.rows.proofs.Bytes.{bytes-same}
 use Rattle.rows.proofs.Laws.{row-length, rows-length, rows-in, rows-cut, rows-bytes, rows-past, put-behind}
 
@@ -46,6 +46,11 @@ rows-same (suc m) p F G h =
 pub table-same : (F G : ℕ → Places) → ((p q : ℕ) → p < 128 → q < 128 → F p q ≡ G p q) → tableOf F ≡ tableOf G
 unfolding tableOf
 table-same F G h = rows-same 128 0 F G (λ r q a b l. h r q (omega arith) l)
+
+-- the table of empty rows
+pub no-table : tableOf (λ p. nothing) ≡ noRows
+unfolding tableOf rowsFrom rowBytes bytesFrom word noRows
+no-table = refl
 
 -- ---- a table with another row for p
 
@@ -87,6 +92,3 @@ module _ (w : List ℕ) (all : length w ≡ 2048) (bytes : (i : ℕ) → i < len
   pub table-of-rows : tableOf (rowsOf w) ≡ w
   unfolding tableOf
   table-of-rows = rows-bytes w bytes 128 (omega arith) ∙ take-all (16 * 128) w (omega arith)
-
-  pub table-with : (p : ℕ) (S : Places) → p < 128 → withRow w p (packed S) ≡ tableOf (λ x. cond (eqb x p) S (rowsOf w x))
-  table-with p S l = ap (λ (v : List ℕ). withRow v p (packed S)) (sym table-of-rows) ∙ with-table (rowsOf w) p S l

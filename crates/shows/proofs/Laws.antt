@@ -1,13 +1,12 @@
 -- Showing, one law for each way in which the code returns. Assumes nothing.
-use mathlib.Core.Path.{_≡_, refl, sym, ap, ap₂, _∙_, fun-ext}
+use mathlib.Core.Path.{_≡_, refl, sym, ap, ap₂, _∙_}
 use mathlib.Core.Bool.{Bool, true, false, not, cond, _&&_}
 use mathlib.Core.Logic.{_⊎_, inl, inr}
 use mathlib.Core.List.{List}
-use Prim.Native.Nat.{ℕ, _+_, _*_, _≤_, _<_}
+use Prim.Native.Nat.{ℕ, _*_, _≤_, _<_}
 use native.Mathlib.Omega.{arith}
-use native.Mathlib.Decide.{ℕ-discrete}
 use lib.ListN.{length}
-use lib.Dec.{eqb, leb, ltb}
+use lib.Dec.{eqb, ltb}
 use borrow.Author.Tests.{ltb-true, le-leb, eqb-true}
 use Rattle.places.specs.Sets.{Places, only, with, any, lowest}
 use Rattle.places.specs.PlaceSets.{has, kept, found}
@@ -21,7 +20,7 @@ use Rattle.places.proofs.Laws.{kept-all, lowest-found, lowest-nothing}
 use Rattle.histories.specs.declared.Kind.{Kind}
 use Rattle.histories.specs.declared.Kind.the-variants.{Full, Short}
 use Rattle.histories.specs.Histories.{Row, History, Accepted}
-use Rattle.histories.specs.Rule.{Answer, is-last, not-last, is-open, recorded, ruledOutBy, blockersBy, answerBy, openAnswer, inherited}
+use Rattle.histories.specs.Rule.{is-last, not-last, is-open, recorded, ruledOutBy, blockersBy, answerBy, openAnswer, inherited}
 use Rattle.rows.specs.Rows.{rowsOf, putRow, laid}
 use Rattle.rows.proofs.Laws.{laid-put}
 use Rattle.answers.specs.Views.{size, acceptedIn}

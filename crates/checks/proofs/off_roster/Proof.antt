@@ -1,5 +1,4 @@
 -- `checks::off_roster` meets its contract. Assumes nothing.
-use native.Mathlib.Omega.{arith}
 use borrow.Author.Needs.{needs}
 use Rattle.checks.proofs.Laws.{row-off, named-off}
 use Rattle.checks.proofs.off_roster.Statement.{statement}

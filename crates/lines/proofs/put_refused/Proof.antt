@@ -7,7 +7,6 @@ use lib.ListN.{length, take, length-take, length-drop}
 use borrow.Rule.Slice.PartMut.{putMid}
 use borrow.Author.Needs.{needs}
 use Rattle.lines.specs.Lines.{ascii, decimal}
-use Rattle.fronts.specs.Fronts.{front}
 use Rattle.lines.proofs.Laws.{front-parted, decimal-byte}
 use Rattle.lines.proofs.put_refused.Statement.{statement}
 use Rattle.lines.proofs.put_refused.Tie as tie
