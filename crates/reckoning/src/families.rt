@@ -1,5 +1,6 @@
 // The piles of small rosters, one after another.
 ghost use Prim.Native.Nat.{_≤_, _<_};
+use crate::alike;
 use crate::buffers;
 use crate::cases;
 use crate::cases::Case;
@@ -9,16 +10,25 @@ use crate::piles;
 use crate::tallies;
 use crate::tallies::Tally;
 
-// What is tried of a pile: its records in every order, or all that is shown and written in one order, with every matrix checked
-// or a sample of them.
+// What is tried of a pile: its records in every order and the answers then, or what is left then, or all that is shown and written in
+// one order, with every matrix checked or a sample of them.
 enum Trial {
     Orders,
+    Alike,
     Histories,
     Sample,
 }
 
-// The records of a pile in every order, and then every answer.
-fn orders(list: &[u32], kind: u8, n: usize, pile: u32, tally: Tally) -> Tally {
+// The records of a pile in one order: what is left, or every answer.
+fn one_order(list: &[u32], c: Case, alike: bool, t: Tally) -> Tally {
+    if alike {
+        return alike::played(list, c, t);
+    }
+    piles::played(list, c, t)
+}
+
+// The records of a pile in every order.
+fn orders(list: &[u32], kind: u8, n: usize, pile: u32, alike: bool, tally: Tally) -> Tally {
     let mut t = tally;
     let mut order = 0u32;
     while order < cases::orders(n) {
@@ -28,7 +38,7 @@ fn orders(list: &[u32], kind: u8, n: usize, pile: u32, tally: Tally) -> Tally {
             pile,
             order,
         };
-        let next = piles::played(list, c, t);
+        let next = one_order(list, c, alike, t);
         t = next;
         order += 1;
     }
@@ -56,7 +66,8 @@ fn try_pile(list: &[u32], kind: u8, n: usize, pile: u32, trial: Trial, t: Tally)
         order: pile % 24,
     };
     match trial {
-        Trial::Orders => orders(list, kind, n, pile, t),
+        Trial::Orders => orders(list, kind, n, pile, false, t),
+        Trial::Alike => orders(list, kind, n, pile, true, t),
         Trial::Histories => histories(list, c, t, 1, 1),
         Trial::Sample => histories(list, c, t, 1021, 5),
     }
@@ -101,6 +112,10 @@ pub fn of_small_rosters() {
     tallies::report(
         b"every pile of 1 to 3 places in every order",
         small_rosters(Trial::Orders),
+    );
+    tallies::report(
+        b"every acceptable pile of 1 to 3 places in every order, recoveries compared",
+        small_rosters(Trial::Alike),
     );
     tallies::report(
         b"every pile of 1 to 3 places, shown, written and checked",

@@ -2,6 +2,7 @@
 // place, in how many of the fitting ones the place is last. One line for each family of cases; before it one for the first case that
 // differs, with all that it takes to repeat it: the kind, the roster's length, the records in order as PLACE:SET, the call, and both
 // outcomes. A set is the sum of its places' bits.
+mod alike;
 mod buffers;
 mod caller;
 mod cases;
