@@ -29,7 +29,7 @@ use Rattle.recovery.specs.Demand as D
 use Rattle.recovery.specs.Demand.{Free, Call, offer, ask, show, whole, says, lent, OfGroup}
 use Rattle.recovery.specs.Run.{offerSays, askedSays, showingSays, shownGives, outcome, left, reached}
 use Rattle.recovery.specs.Run as run
-use Rattle.recovery.specs.Later.{Stays, offers, Accepts, all, next}
+use Rattle.recovery.specs.Later.{Stays, offers, IsAccepted, Accepts, all, next}
 use Rattle.recovery.proofs.Demand.{Good, step, good-next, good-after, good-left}
 use Rattle.recovery.proofs.Dictated.{within-left, grows, last-iff, not-last-iff, decided-elim, decided-intro, settled-iff, same-record, Agrees, agrees-accepted, Enters, accepted-enters}
 
@@ -71,9 +71,6 @@ decided-said w a b e = go (w .answer) refl e
 settled-said : (t : Bool) → says (cond t D.settled D.unsettled) ≡ says D.settled → t ≡ true
 settled-said true e = refl
 settled-said false e = let z : _≡_ {A = ℕ} 0 1 = cc in absurd (omega arith)
-
-abbrev pub IsAccepted : Reply → Type 0
-IsAccepted a = (a ≡ O.Taken) ⊎ (a ≡ O.Repeated)
 
 accepted-said : (a : Reply) → (says (offerSays a) ≡ says D.taken) ⊎ (says (offerSays a) ≡ says D.repeated) → IsAccepted a
 unfolding offerSays

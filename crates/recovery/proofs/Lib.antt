@@ -1,6 +1,7 @@
--- `Demand` has demand 3 and the invariant, `Single` that one outcome is dictated, `Trips` what is read, written, shown and checked;
--- `Acceptance` computes document 01's example, and `Refuses` shows that nothing else is dictated there. `Calls` has a law for each
--- case of each call. The rest serves these.
+-- `Demand` has demand 3 and the invariant, `Single` that one outcome is dictated, `Later` that what is decided stays so and that the order of
+-- records leaves no trace, `Trips` what is read, written, shown and checked; `Acceptance` computes document 01's example, and
+-- `Refuses` shows that nothing else is dictated there. `Calls` has a law for each case of each call, `Dictated` what an outcome tells.
+-- The rest serves these.
 pub mod Acceptance
 pub mod Opens
 pub mod Keeps

@@ -6,6 +6,7 @@ use mathlib.Core.List.{List, [], _∷_, map}
 use Prim.Native.Nat.{ℕ}
 use Rattle.shows.specs.declared.Showing.the-variants as S
 use Rattle.shows.specs.Shows.{unshown}
+use Rattle.replies.specs.declared.Reply.{Reply}
 use Rattle.replies.specs.declared.Reply.the-variants as O
 use Rattle.recovery.specs.declared.Recovery.{Recovery}
 use Rattle.recovery.specs.declared.Asked.the-variants as A
@@ -23,8 +24,11 @@ pub record Stays (r s : Recovery) (i : ℕ) : Type 0 where
 abbrev pub offers : List (List ℕ) → List Call
 offers xs = map offer xs
 
--- so offered to r, each of them is accepted: taken or repeated
+-- a record is accepted: taken or repeated
+abbrev pub IsAccepted : Reply → Type 0
+IsAccepted a = (a ≡ O.Taken) ⊎ (a ≡ O.Repeated)
+
+-- so offered to r, each of them is accepted
 pub data Accepts : Recovery → List (List ℕ) → Type 0 where
   all : {r : Recovery} → Accepts r []
-  next : {r : Recovery} {bytes : List ℕ} {xs : List (List ℕ)} → (offered r bytes .answer ≡ O.Taken) ⊎ (offered r bytes .answer ≡ O.Repeated)
-      → Accepts (offered r bytes .recovery) xs → Accepts r (bytes ∷ xs)
+  next : {r : Recovery} {bytes : List ℕ} {xs : List (List ℕ)} → IsAccepted (offered r bytes .answer) → Accepts (offered r bytes .recovery) xs → Accepts r (bytes ∷ xs)
