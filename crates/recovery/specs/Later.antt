@@ -13,8 +13,8 @@ use Rattle.recovery.specs.declared.Asked.the-variants as A
 use Rattle.recovery.specs.Contracts.{offered, asked, shown}
 use Rattle.recovery.specs.Demand.{Call, offer}
 
--- what r says of the place i, once it is decided, s says too. Where i is open in r, s may say anything. Showing goes by no buffer
--- here: decided with some two is decided with any, and these keep their bytes
+-- what r says of the place i, once it is decided, s says too. Where i is open in r, s may say anything. The buffers do not matter to
+-- showing: decided with some two in r, it is decided with any two in s, and these keep their bytes
 pub record Stays (r s : Recovery) (i : ℕ) : Type 0 where
   pub last : asked r i ≡ A.Last → asked s i ≡ A.Last
   pub not-last : asked r i ≡ A.NotLast → asked s i ≡ A.NotLast
