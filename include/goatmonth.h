@@ -12,7 +12,7 @@
  * Nothing else is asked. Every number and every byte has an answer, stated below: places and positions up to SIZE_MAX, damaged
  * records, and whatever values the words of a struct hold.
  *
- * A refusal is a number from 1 to 15. A refused call writes nothing; of a list of events, those before the refused one stand.
+ * A refusal is a number from 1 to 16. A refused call writes nothing; of a list of events, those before the refused one stand.
  *
  * The functions named gm_recovery_.., gm_day_start and so on are thin: they pass the parts of one struct to the library.
  */
@@ -39,7 +39,7 @@ enum { GM_STOP = 1, GM_HEAR = 2 };
 
 /* Answers that are no refusals. */
 enum {
-    GM_DONE = 0,        /* opened, taken, shown, read or written */
+    GM_DONE = 0,        /* opened, taken, given, shown, read or written */
     GM_REPEATED = 32,   /* the record of one that is back, the same as before */
     GM_LAST = 33,       /* in every history that fits, nobody heard it stop */
     GM_NOT_LAST = 34,   /* in every history that fits, somebody heard it stop */
@@ -47,7 +47,9 @@ enum {
     GM_DECIDED = 36,    /* nothing to show: the place is last or not last */
     GM_FITS = 37,       /* the history agrees with the records */
     GM_FITS_NOT = 38,   /* it does not */
-    GM_NOT_FOUND = 128  /* a serial that is not on the roster: no place has this number */
+    GM_FIRST = 39,      /* the serial stands on the roster */
+    GM_SECOND = 40,     /* it is the second serial of a place */
+    GM_NOT_FOUND = 41   /* it is neither */
 };
 
 /* Refusals. 1 to 8 are faults of a record, and the first one from its front decides. */
@@ -57,8 +59,8 @@ enum {
     GM_BAD_COUNT = 3,        /* no member or more than 128, or more mourned than members */
     GM_ZERO_SERIAL = 4,      /* a serial is 0 */
     GM_TWICE = 5,            /* a serial stands on the roster twice */
-    GM_NOT_ON_ROSTER = 6,    /* the own serial, or a mourned one, is not on the roster */
-    GM_OUT_OF_ORDER = 7,     /* the mourned serials do not follow the roster's order, or one comes again */
+    GM_NOT_ON_ROSTER = 6,    /* the own serial, or a mourned one, is neither on the record's roster nor second to one there */
+    GM_OUT_OF_ORDER = 7,     /* the mourned places do not follow the roster's order, or one comes again */
     GM_BYTES_AFTER = 8,      /* something follows a record that has to stand alone */
     GM_OTHER_GROUP = 9,      /* the record's kind or roster, order included, is not the recovery's */
     GM_OTHER_RECORD = 10,    /* this member is back already, with another mourned set */
@@ -66,7 +68,8 @@ enum {
     GM_OFF_ROSTER = 12,      /* a place that the roster does not have */
     GM_TOO_SHORT = 13,       /* a buffer ends too early */
     GM_NOT_ALLOWED = 14,     /* an event that cannot happen now, or the record of one that runs or is not back */
-    GM_BIT_OFF_ROSTER = 15   /* a history names a place that the roster does not have */
+    GM_BIT_OFF_ROSTER = 15,  /* a history names a place that the roster does not have */
+    GM_KNOWN_SERIAL = 16     /* a second serial that the group has already, or for a place that has one */
 };
 
 /* ---- structs ---- */
@@ -77,22 +80,25 @@ enum {
  *            as 128), head[2] and head[3] the places that are back: place k is bit k of head[2], or bit k - 64 of head[3];
  *   mourned  all places that a record taken so far names, as two words in the same way;
  *   serials  the first head[1] are the roster;
+ *   seconds  the second serial of each place, which a new board brought: 0 where the place has none;
  *   rows     16 bytes for each place, laid out as a history: in the row of a place that is back stand the places that its record
  *            mourns, place k as bit k % 8 of byte k / 8. The row of a place that is not back is empty.
- * gm_open and gm_offer keep it so, and then every answer is the one that the records give. A plain value: copies are recoveries of
- * their own.
+ * gm_open, gm_offer and gm_give keep it so, and then every answer is the one that the records give. A plain value: copies are
+ * recoveries of their own.
  *
  * A caller that writes into the struct itself gets answers by what it wrote. Who is mourned is what `mourned` says, and no call holds
  * it against the rows: gm_ask, gm_settled, gm_show and the three gm_unmourned.. go by it, and gm_offer adds to it. The record of a
  * place that is back is its row, without bits off the roster: gm_offer, gm_check and gm_write go by these records, and so do gm_ask,
  * gm_settled and gm_show where they follow records. gm_show lays the rows of the roster down as they stand, whoever is back and with
- * all their bits, but for the one row that makes the second history differ. Other bits off the roster, other rows, and serials behind
- * the roster are never looked at.
+ * all their bits, but for the one row that makes the second history differ. gm_find, gm_give and gm_offer go by `serials` and
+ * `seconds`: a second serial counts as the first one of its place, and is found at the lowest place where that stands. Other bits off
+ * the roster, other rows, and what stands behind the roster in `serials` and `seconds` are never looked at.
  */
 typedef struct gm_recovery {
     uint64_t head[4];
     uint64_t mourned[2];
     uint32_t serials[128];
+    uint32_t seconds[128];
     uint8_t rows[2048];
 } gm_recovery;
 
@@ -124,6 +130,12 @@ typedef struct gm_end {
     uint64_t next;
 } gm_end;
 
+/* Where a serial was found: GM_FIRST or GM_SECOND and its place, or GM_NOT_FOUND and 128, which is no place. */
+typedef struct gm_found {
+    uint64_t answer;
+    uint64_t place;
+} gm_found;
+
 /* A record that was read: its kind, the place of its own serial, the position where its roster's serials start and how many they
  * are, the mourned places as two words, and the position behind the record. */
 typedef struct gm_record {
@@ -137,19 +149,26 @@ typedef struct gm_record {
 
 /* ---- the library: a recovery by its parts ---- */
 
-/* Opens a recovery with nobody back: GM_DONE, or 2, 3, then 4 for a zero anywhere, then 5 for a repeat anywhere. */
+/* Opens a recovery with nobody back and no second serials: GM_DONE, or 2, 3, then 4 for a zero anywhere, then 5 for a repeat anywhere. */
 uint8_t gm_open(uint8_t kind, const uint32_t *list, size_t length, uint64_t head[4], uint64_t mourned[2], uint32_t serials[128],
-                uint8_t rows[2048]);
+                uint32_t seconds[128], uint8_t rows[2048]);
 
-/* Offers a lone record: GM_DONE for taken, GM_REPEATED, or 1 to 11 in this order. Only a record that is taken changes anything. */
-uint8_t gm_offer(uint64_t head[4], uint64_t mourned[2], const uint32_t serials[128], uint8_t rows[2048], const uint8_t *bytes,
-                 size_t length);
+/* Offers a lone record: GM_DONE for taken, GM_REPEATED, or 1 to 11 in this order. Only a record that is taken changes anything. Its own
+ * and mourned serials may be second ones, as gm_read has it for this group; all answers go by the places so found. Its roster has to be
+ * the group's first serials, else 9. */
+uint8_t gm_offer(uint64_t head[4], uint64_t mourned[2], const uint32_t serials[128], const uint32_t seconds[128], uint8_t rows[2048],
+                 const uint8_t *bytes, size_t length);
 
 /* The answer for a place: GM_LAST, GM_NOT_LAST, GM_OPEN, or 12. */
 uint8_t gm_ask(const uint64_t head[4], const uint64_t mourned[2], const uint8_t rows[2048], size_t place);
 
-/* The place of a serial, or GM_NOT_FOUND. */
-size_t gm_find(const uint64_t head[4], const uint32_t serials[128], uint32_t serial);
+/* The place of a serial, and which of the place's two it is. One that stands on the roster is a first serial, and only another is
+ * looked for among the second ones, where 0 is none. So 0 is never found in a recovery that was opened. */
+gm_found gm_find(const uint64_t head[4], const uint32_t serials[128], const uint32_t seconds[128], uint32_t serial);
+
+/* Gives a place a second serial: GM_DONE and it stands in `seconds`, or 12, 4, then 16 where the serial is a first or a second one of
+ * the group already, or the place has a second one. Records that were taken stay as they are; those offered later may use it. */
+uint8_t gm_give(const uint64_t head[4], const uint32_t serials[128], uint32_t seconds[128], size_t place, uint32_t serial);
 
 /* The places that are not mourned, and those of them that are not back, as two words. No bit is off the roster. */
 void gm_unmourned(const uint64_t head[4], const uint64_t mourned[2], uint64_t out[2]);
@@ -172,17 +191,28 @@ uint8_t gm_show(const uint64_t head[4], const uint64_t mourned[2], const uint8_t
 /* Whether a history agrees with the records: GM_FITS, GM_FITS_NOT, 13, then 15. Bytes behind the rows are not looked at. */
 uint8_t gm_check(const uint64_t head[4], const uint8_t rows[2048], const uint8_t *history, size_t length);
 
-/* Writes the record of a returned place into `out` from position `at` on: its end, or 12, 14, 13. Other bytes stay as they are. */
+/* Writes the record of a returned place into `out` from position `at` on: its end, or 12, 14, 13. Other bytes stay as they are. It is
+ * written in first serials, whichever its bytes had when it was offered. */
 gm_end gm_write(const uint64_t head[4], const uint32_t serials[128], const uint8_t rows[2048], size_t place, uint8_t *out, size_t length,
                 size_t at);
 
 /* ---- the library: records ---- */
 
-/* Reads the record that starts at a position, whatever follows it: GM_DONE and the seven words of gm_record in `out`, or 1 to 7. */
-uint8_t gm_read(const uint8_t *bytes, size_t length, size_t at, uint64_t out[7]);
+/*
+ * Reads the record that starts at a position, whatever follows it: GM_DONE and the seven words of gm_record in `out`, or 1 to 7.
+ *
+ * Its own and mourned serials may be second ones of a group: `firsts` has the group's first serials and `seconds` the second ones, place
+ * by place, 0 for none. A serial that stands in the record's own roster is that one. Only another is looked for in `seconds`: there it
+ * counts as the serial at the same position of `firsts`, which then has to stand in the record's roster, else 6; and 7 goes by the places
+ * so found. If `seconds` has it twice, the first position counts; if `firsts` ends before that position, it is 6. The record's roster
+ * is read as it stands, and need not be the group's. Each list may have any length; without second serials pass 0.
+ */
+uint8_t gm_read(const uint8_t *bytes, size_t length, size_t at, const uint32_t *firsts, size_t firsts_length, const uint32_t *seconds,
+                size_t seconds_length, uint64_t out[7]);
 
 /* The same for bytes that are one record and no more: also 8. */
-uint8_t gm_read_lone(const uint8_t *bytes, size_t length, uint64_t out[7]);
+uint8_t gm_read_lone(const uint8_t *bytes, size_t length, const uint32_t *firsts, size_t firsts_length, const uint32_t *seconds,
+                     size_t seconds_length, uint64_t out[7]);
 
 /* 1 if the `count` serials that start at a position are all there and are this list, else 0. */
 uint8_t gm_roster_is(const uint8_t *bytes, size_t length, size_t at, size_t count, const uint32_t *list, size_t list_length);
@@ -216,12 +246,12 @@ gm_end gm_day_write(const uint64_t head[4], const uint32_t serials[128], const u
 
 static inline uint8_t gm_recovery_open(gm_recovery *r, uint8_t kind, const uint32_t *list, size_t length)
 {
-    return gm_open(kind, list, length, r->head, r->mourned, r->serials, r->rows);
+    return gm_open(kind, list, length, r->head, r->mourned, r->serials, r->seconds, r->rows);
 }
 
 static inline uint8_t gm_recovery_offer(gm_recovery *r, const uint8_t *bytes, size_t length)
 {
-    return gm_offer(r->head, r->mourned, r->serials, r->rows, bytes, length);
+    return gm_offer(r->head, r->mourned, r->serials, r->seconds, r->rows, bytes, length);
 }
 
 static inline uint8_t gm_recovery_ask(const gm_recovery *r, size_t place)
@@ -229,9 +259,14 @@ static inline uint8_t gm_recovery_ask(const gm_recovery *r, size_t place)
     return gm_ask(r->head, r->mourned, r->rows, place);
 }
 
-static inline size_t gm_recovery_find(const gm_recovery *r, uint32_t serial)
+static inline gm_found gm_recovery_find(const gm_recovery *r, uint32_t serial)
 {
-    return gm_find(r->head, r->serials, serial);
+    return gm_find(r->head, r->serials, r->seconds, serial);
+}
+
+static inline uint8_t gm_recovery_give(gm_recovery *r, size_t place, uint32_t serial)
+{
+    return gm_give(r->head, r->serials, r->seconds, place, serial);
 }
 
 static inline void gm_recovery_unmourned(const gm_recovery *r, uint64_t out[2])
@@ -286,17 +321,43 @@ static inline uint8_t gm_record_take(uint8_t answer, const uint64_t words[7], gm
     return answer;
 }
 
+/* A record of a group without second serials. */
 static inline uint8_t gm_record_read(const uint8_t *bytes, size_t length, size_t at, gm_record *out)
 {
+    const uint32_t none = 0;
     uint64_t words[7] = { 0 };
-    uint8_t answer = gm_read(bytes, length, at, words);
+    uint8_t answer = gm_read(bytes, length, at, &none, 0, &none, 0, words);
     return gm_record_take(answer, words, out);
 }
 
 static inline uint8_t gm_record_read_lone(const uint8_t *bytes, size_t length, gm_record *out)
 {
+    const uint32_t none = 0;
     uint64_t words[7] = { 0 };
-    uint8_t answer = gm_read_lone(bytes, length, words);
+    uint8_t answer = gm_read_lone(bytes, length, &none, 0, &none, 0, words);
+    return gm_record_take(answer, words, out);
+}
+
+/* How many members a recovery has. */
+static inline size_t gm_recovery_count(const gm_recovery *r)
+{
+    return r->head[1] < 128 ? (size_t)r->head[1] : 128;
+}
+
+/* A record that may use the second serials of a recovery's group, as gm_offer reads it: its roster may be another all the same. */
+static inline uint8_t gm_recovery_read(const gm_recovery *r, const uint8_t *bytes, size_t length, size_t at, gm_record *out)
+{
+    size_t count = gm_recovery_count(r);
+    uint64_t words[7] = { 0 };
+    uint8_t answer = gm_read(bytes, length, at, r->serials, count, r->seconds, count, words);
+    return gm_record_take(answer, words, out);
+}
+
+static inline uint8_t gm_recovery_read_lone(const gm_recovery *r, const uint8_t *bytes, size_t length, gm_record *out)
+{
+    size_t count = gm_recovery_count(r);
+    uint64_t words[7] = { 0 };
+    uint8_t answer = gm_read_lone(bytes, length, r->serials, count, r->seconds, count, words);
     return gm_record_take(answer, words, out);
 }
 

@@ -1,8 +1,9 @@
 // The library's calls beside plain Rust's, on the same input. Buffers are not cleared between calls, and all is in the cache.
 use crate::make::{self, Group, Layout, SIZES};
 use crate::plain::Kind::{self, Full, Short};
+use crate::plain::boards::Boards;
 use crate::plain::record;
-use crate::plain::recovery::{Answer, Recovery};
+use crate::plain::recovery::{Answer, Offer, Recovery};
 use crate::plain::set::below;
 use crate::proved;
 use crate::random::Random;
@@ -13,7 +14,10 @@ pub fn run() {
     let mut table = Table::default();
     reading(&mut table);
     for kind in [Full, Short] {
-        offering(&mut table, kind);
+        offering(&mut table, kind, "offering every record");
+    }
+    for kind in [Full, Short] {
+        offering(&mut table, kind, BY_SECONDS);
     }
     for kind in [Full, Short] {
         asking(&mut table, kind);
@@ -37,10 +41,11 @@ fn reading(table: &mut Table) {
         for &n in sizes {
             let bytes = Layout::new(Short, &make::ordered(order, n), n / 2, below(n)).bytes();
             let (mut words, mut roster) = ([0; 7], Vec::with_capacity(128));
-            assert_eq!((proved::read_lone(&bytes, &mut words), record::read_lone(&bytes, &mut roster).is_ok()), (0, true));
+            let plain = record::read_lone(&bytes, Boards::OLD, &mut roster);
+            assert_eq!((proved::read_lone(&bytes, &[], &[], &mut words), plain.is_ok()), (0, true));
             let times = calls(
-                || _ = black_box(proved::read_lone(black_box(&bytes), &mut words)),
-                || _ = black_box(record::read_lone(black_box(&bytes), &mut roster)),
+                || _ = black_box(proved::read_lone(black_box(&bytes), &[], &[], &mut words)),
+                || _ = black_box(record::read_lone(black_box(&bytes), Boards::OLD, &mut roster)),
             );
             table.add(&format!("reading the longest record, {order}"), n, times);
         }
@@ -78,10 +83,32 @@ fn half_back(kind: Kind, n: usize) -> (Scene, usize) {
     scenes.filter_map(|scene| open(&scene).map(|place| (scene, place))).next().expect("one of them all")
 }
 
+const BY_SECONDS: &str = "offering every record by second serials";
+
+// Every board is changed: both recoveries are given the second serials, and the records have no others but in their rosters.
+fn change_boards(scene: &mut Scene) {
+    let roster = &scene.group.roster;
+    let second = |place: usize| roster[place] ^ 1;
+    for place in 0..roster.len() {
+        assert_eq!((scene.library.give(place, second(place)), scene.plain.give(place, second(place))), (0, Ok(())));
+    }
+    for bytes in &mut scene.records {
+        let record = record::read_lone(bytes, Boards::OLD, &mut Vec::new()).expect("a record");
+        *bytes = Layout::by(record.kind, roster, record.own, record.mourned, second).bytes();
+    }
+}
+
 // Every member's record, taken one after the other by a recovery that goes back to nobody returned each time.
-fn offering(table: &mut Table, kind: Kind) {
+fn offering(table: &mut Table, kind: Kind, what: &str) {
     for n in SIZES {
-        let Scene { records, mut library, mut plain, .. } = scene(0, kind, n, 50, 0);
+        let mut scene = scene(0, kind, n, 50, 0);
+        if what == BY_SECONDS {
+            change_boards(&mut scene);
+        }
+        let Scene { records, mut library, mut plain, .. } = scene;
+        for record in &records {
+            assert_eq!((library.offer(record), plain.offer(record)), (0, Ok(Offer::Taken)));
+        }
         let times = calls(
             || {
                 library.reset();
@@ -92,7 +119,7 @@ fn offering(table: &mut Table, kind: Kind) {
                 records.iter().for_each(|record| _ = black_box(plain.offer(black_box(record))));
             },
         );
-        table.add(&format!("offering every record, {}", word(kind)), n, times);
+        table.add(&format!("{what}, {}", word(kind)), n, times);
     }
 }
 

@@ -81,6 +81,29 @@ pub fn roster(random: &mut Random) -> Vec<u32> {
     list
 }
 
+// A serial for a new board: often one that shares bits with a known serial, now and then a known one or 0.
+pub fn board(random: &mut Random, firsts: &[u32], seconds: &[u32]) -> u32 {
+    let (first, any) = (random.pick(firsts), random.next() as u32);
+    match random.below(20) {
+        0 => 0,
+        1 => first,
+        2 if !seconds.is_empty() => random.pick(seconds),
+        3..8 => first ^ 1 << random.below(32),
+        8..12 => any & 0xffff_0000 | first & 0xffff,
+        _ => any,
+    }
+}
+
+// Second serials for so many places in a hundred. No recovery has looked at them: repeats and first serials may be among them.
+pub fn seconds(random: &mut Random, firsts: &[u32], percent: usize) -> Vec<u32> {
+    let mut seconds = Vec::with_capacity(firsts.len());
+    for _ in firsts {
+        let serial = if random.chance(percent) { board(random, firsts, &seconds) } else { 0 };
+        seconds.push(serial);
+    }
+    seconds
+}
+
 pub fn history(random: &mut Random, kind: Kind, n: usize) -> Vec<Set> {
     let percent = random.pick(&[0, 3, 20, 50, 90, 100]);
     history_of(random, kind, n, percent)
@@ -118,15 +141,14 @@ pub struct Layout {
 
 impl Layout {
     pub fn new(kind: Kind, roster: &[u32], own: usize, mourned: Set) -> Self {
-        let mourned: Vec<u32> = members(mourned & below(roster.len())).map(|p| roster[p]).collect();
-        Layout {
-            kind: kind as u8,
-            own: roster[own],
-            count: roster.len() as u8,
-            roster: roster.to_vec(),
-            named: mourned.len() as u8,
-            mourned,
-        }
+        Layout::by(kind, roster, own, mourned, |p| roster[p])
+    }
+
+    // The own and the mourned places stand by the serials that the caller chooses.
+    pub fn by(kind: Kind, roster: &[u32], own: usize, mourned: Set, mut serial: impl FnMut(usize) -> u32) -> Self {
+        let own = serial(own);
+        let mourned: Vec<u32> = members(mourned & below(roster.len())).map(serial).collect();
+        Layout { kind: kind as u8, own, count: roster.len() as u8, roster: roster.to_vec(), named: mourned.len() as u8, mourned }
     }
 
     pub fn bytes(&self) -> Vec<u8> {
@@ -140,11 +162,11 @@ impl Layout {
     }
 
     // One field is made wrong, or at least different.
-    fn damage(&mut self, random: &mut Random) {
+    fn damage(&mut self, random: &mut Random, second: u32) {
         let n = self.roster.len();
         let (i, j) = (random.below(n), random.below(n));
         let any = random.next() as u32;
-        let strange = random.pick(&[0, 1, self.own, self.roster[i], self.roster[i] ^ 1 << 16, any]);
+        let strange = random.pick(&[0, 1, self.own, self.roster[i], self.roster[i] ^ 1 << 16, second, any]);
         match random.below(12) {
             0 => self.kind = random.pick(&[0, 1, 2, 3, 255]),
             1 => self.own = strange,
@@ -212,13 +234,35 @@ fn mourned(random: &mut Random, group: &Group, place: usize) -> Set {
     }
 }
 
-// Some bytes to offer: mostly a record of the group, true or not, now and then one with a fault, or noise.
-pub fn offer(random: &mut Random, group: &Group) -> Vec<u8> {
-    let place = random.below(group.roster.len());
-    let mut layout = Layout::new(group.kind, &group.roster, place, mourned(random, group, place));
+// A second serial of the group, or 0.
+fn some_second(random: &mut Random, seconds: &[u32]) -> u32 {
+    if seconds.is_empty() { 0 } else { random.pick(seconds) }
+}
+
+// A record of the group, true or not, its own and mourned serials partly second ones. Now and then a second serial stands in its roster.
+fn layout(random: &mut Random, group: &Group, seconds: &[u32]) -> Layout {
+    let n = group.roster.len();
+    let place = random.below(n);
+    let mourned = mourned(random, group, place);
+    let mut roster = group.roster.clone();
+    let second = some_second(random, seconds);
+    if second != 0 && random.chance(6) {
+        roster[random.below(n)] = second;
+    }
+    let percent = random.pick(&[0, 50, 100]);
+    Layout::by(group.kind, &roster, place, mourned, |p| match seconds.get(p) {
+        Some(&second) if second != 0 && random.chance(percent) => second,
+        _ => roster[p],
+    })
+}
+
+// Some bytes to offer to a group with these second serials: mostly a record of it, now and then one with a fault, or noise.
+pub fn offer(random: &mut Random, group: &Group, seconds: &[u32]) -> Vec<u8> {
+    let mut layout = layout(random, group, seconds);
     let kind = random.below(100);
     if (70..86).contains(&kind) {
-        layout.damage(random);
+        let second = some_second(random, seconds);
+        layout.damage(random, second);
     }
     let mut bytes = layout.bytes();
     if (82..97).contains(&kind) {

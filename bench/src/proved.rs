@@ -12,6 +12,7 @@ pub struct Recovery {
     pub head: Head,
     pub mourned: [u64; 2],
     pub serials: Serials,
+    pub seconds: Serials,
     pub rows: Rows,
 }
 
@@ -42,23 +43,29 @@ pub struct Played {
     pub day: Day,
 }
 
-// The words, then all serials and bytes of rows that are not 0, with their positions.
-fn show_parts(f: &mut Formatter, serials: &Serials, rows: &Rows) -> Result {
-    serials.iter().enumerate().filter(|x| *x.1 != 0).try_for_each(|(k, x)| write!(f, " serial {k} {x}"))?;
+// All serials and bytes of rows that are not 0, with their positions.
+fn show_serials(f: &mut Formatter, name: &str, serials: &Serials) -> Result {
+    serials.iter().enumerate().filter(|x| *x.1 != 0).try_for_each(|(k, x)| write!(f, " {name} {k} {x}"))
+}
+
+fn show_rows(f: &mut Formatter, rows: &Rows) -> Result {
     rows.iter().enumerate().filter(|x| *x.1 != 0).try_for_each(|(k, x)| write!(f, " row byte {k} {x:02x}"))
 }
 
 impl Debug for Recovery {
     fn fmt(&self, f: &mut Formatter) -> Result {
         write!(f, "head {:x?} mourned {:x?}", self.head, self.mourned)?;
-        show_parts(f, &self.serials, &self.rows)
+        show_serials(f, "serial", &self.serials)?;
+        show_serials(f, "second", &self.seconds)?;
+        show_rows(f, &self.rows)
     }
 }
 
 impl Debug for Day {
     fn fmt(&self, f: &mut Formatter) -> Result {
         write!(f, "head {:x?}", self.head)?;
-        show_parts(f, &self.serials, &self.rows)
+        show_serials(f, "serial", &self.serials)?;
+        show_rows(f, &self.rows)
     }
 }
 
@@ -70,6 +77,14 @@ pub struct End {
     pub next: u64,
 }
 
+// gm_found of the header.
+#[repr(C)]
+#[derive(Clone, Copy, Debug, PartialEq, Eq)]
+pub struct Found {
+    pub answer: u64,
+    pub place: u64,
+}
+
 unsafe extern "C" {
     fn gm_open(
         kind: u8,
@@ -78,11 +93,21 @@ unsafe extern "C" {
         head: &mut Head,
         mourned: &mut [u64; 2],
         serials: &mut Serials,
+        seconds: &mut Serials,
         rows: &mut Rows,
     ) -> u8;
-    fn gm_offer(head: &mut Head, mourned: &mut [u64; 2], serials: &Serials, rows: &mut Rows, bytes: *const u8, length: usize) -> u8;
+    fn gm_offer(
+        head: &mut Head,
+        mourned: &mut [u64; 2],
+        serials: &Serials,
+        seconds: &Serials,
+        rows: &mut Rows,
+        bytes: *const u8,
+        length: usize,
+    ) -> u8;
     fn gm_ask(head: &Head, mourned: &[u64; 2], rows: &Rows, place: usize) -> u8;
-    fn gm_find(head: &Head, serials: &Serials, serial: u32) -> usize;
+    fn gm_find(head: &Head, serials: &Serials, seconds: &Serials, serial: u32) -> Found;
+    fn gm_give(head: &Head, serials: &Serials, seconds: &mut Serials, place: usize, serial: u32) -> u8;
     fn gm_unmourned(head: &Head, mourned: &[u64; 2], out: &mut [u64; 2]);
     fn gm_unmourned_absent(head: &Head, mourned: &[u64; 2], out: &mut [u64; 2]);
     fn gm_unmourned_count(head: &Head, mourned: &[u64; 2]) -> usize;
@@ -99,8 +124,25 @@ unsafe extern "C" {
     ) -> u8;
     fn gm_check(head: &Head, rows: &Rows, history: *const u8, length: usize) -> u8;
     fn gm_write(head: &Head, serials: &Serials, rows: &Rows, place: usize, out: *mut u8, length: usize, at: usize) -> End;
-    fn gm_read(bytes: *const u8, length: usize, at: usize, out: &mut [u64; 7]) -> u8;
-    fn gm_read_lone(bytes: *const u8, length: usize, out: &mut [u64; 7]) -> u8;
+    fn gm_read(
+        bytes: *const u8,
+        length: usize,
+        at: usize,
+        firsts: *const u32,
+        firsts_length: usize,
+        seconds: *const u32,
+        seconds_length: usize,
+        out: &mut [u64; 7],
+    ) -> u8;
+    fn gm_read_lone(
+        bytes: *const u8,
+        length: usize,
+        firsts: *const u32,
+        firsts_length: usize,
+        seconds: *const u32,
+        seconds_length: usize,
+        out: &mut [u64; 7],
+    ) -> u8;
     fn gm_roster_is(bytes: *const u8, length: usize, at: usize, count: usize, list: *const u32, list_length: usize) -> u8;
     fn gm_copy_roster(bytes: *const u8, length: usize, at: usize, count: usize, list: &mut Serials) -> u8;
     fn gm_write_record(
@@ -122,29 +164,35 @@ unsafe extern "C" {
 // Each call below lends slices and arrays that Rust knows to be valid and apart, which is all that the header asks.
 impl Recovery {
     pub fn zero() -> Self {
-        Recovery { head: [0; 4], mourned: [0; 2], serials: [0; 128], rows: [0; 2048] }
+        Recovery { head: [0; 4], mourned: [0; 2], serials: [0; 128], seconds: [0; 128], rows: [0; 2048] }
     }
 
     pub fn open(&mut self, kind: u8, list: &[u32]) -> u8 {
-        unsafe { gm_open(kind, list.as_ptr(), list.len(), &mut self.head, &mut self.mourned, &mut self.serials, &mut self.rows) }
+        let Recovery { head, mourned, serials, seconds, rows } = self;
+        unsafe { gm_open(kind, list.as_ptr(), list.len(), head, mourned, serials, seconds, rows) }
     }
 
-    // Goes back to nobody returned: what an opening with the same list would write, but for the serials.
+    // Goes back to nobody returned: what an opening with the same list would write, but for the serials, first and second.
     pub fn reset(&mut self) {
         (self.head[2], self.head[3], self.mourned) = (0, 0, [0; 2]);
         self.rows[..16 * self.head[1] as usize].fill(0);
     }
 
     pub fn offer(&mut self, bytes: &[u8]) -> u8 {
-        unsafe { gm_offer(&mut self.head, &mut self.mourned, &self.serials, &mut self.rows, bytes.as_ptr(), bytes.len()) }
+        let Recovery { head, mourned, serials, seconds, rows } = self;
+        unsafe { gm_offer(head, mourned, serials, seconds, rows, bytes.as_ptr(), bytes.len()) }
     }
 
     pub fn ask(&self, place: usize) -> u8 {
         unsafe { gm_ask(&self.head, &self.mourned, &self.rows, place) }
     }
 
-    pub fn find(&self, serial: u32) -> usize {
-        unsafe { gm_find(&self.head, &self.serials, serial) }
+    pub fn find(&self, serial: u32) -> Found {
+        unsafe { gm_find(&self.head, &self.serials, &self.seconds, serial) }
+    }
+
+    pub fn give(&mut self, place: usize, serial: u32) -> u8 {
+        unsafe { gm_give(&self.head, &self.serials, &mut self.seconds, place, serial) }
     }
 
     pub fn unmourned(&self, out: &mut [u64; 2]) {
@@ -199,12 +247,12 @@ impl Day {
     }
 }
 
-pub fn read(bytes: &[u8], at: usize, out: &mut [u64; 7]) -> u8 {
-    unsafe { gm_read(bytes.as_ptr(), bytes.len(), at, out) }
+pub fn read(bytes: &[u8], at: usize, firsts: &[u32], seconds: &[u32], out: &mut [u64; 7]) -> u8 {
+    unsafe { gm_read(bytes.as_ptr(), bytes.len(), at, firsts.as_ptr(), firsts.len(), seconds.as_ptr(), seconds.len(), out) }
 }
 
-pub fn read_lone(bytes: &[u8], out: &mut [u64; 7]) -> u8 {
-    unsafe { gm_read_lone(bytes.as_ptr(), bytes.len(), out) }
+pub fn read_lone(bytes: &[u8], firsts: &[u32], seconds: &[u32], out: &mut [u64; 7]) -> u8 {
+    unsafe { gm_read_lone(bytes.as_ptr(), bytes.len(), firsts.as_ptr(), firsts.len(), seconds.as_ptr(), seconds.len(), out) }
 }
 
 pub fn roster_is(bytes: &[u8], at: usize, count: usize, list: &[u32]) -> u8 {

@@ -1,6 +1,7 @@
 // The program beside the plain program, each a process of its own: the same output for random streams, and times on long ones.
 use crate::clock;
 use crate::make::{self, Group, SIZES};
+use crate::plain::boards::Boards;
 use crate::plain::{Kind, program, record};
 use crate::random::Random;
 use crate::timing::{Table, side_by_side};
@@ -28,13 +29,13 @@ fn stream(random: &mut Random) -> Vec<u8> {
     let mut bytes = Vec::new();
     for _ in 0..count {
         let whose = if random.chance(95) { &group } else { &other };
-        let next = make::offer(random, whose);
-        if record::read_lone(&next, &mut Vec::new()).is_ok() {
+        let next = make::offer(random, whose, &[]);
+        if record::read_lone(&next, Boards::OLD, &mut Vec::new()).is_ok() {
             bytes.extend(next);
         }
     }
     if random.chance(40) {
-        bytes.extend(make::offer(random, &group));
+        bytes.extend(make::offer(random, &group, &[]));
     }
     bytes
 }

@@ -150,16 +150,21 @@ pub fn opened(kind: u8, list: &[u32]) -> Day {
     parts
 }
 
-// Parts that no call has made: words that count as others, and bits off the roster. The first n serials stay those of a group.
+// Parts that no call has made: words that count as others, and bits off the roster. The first n serials stay those of a group, but for
+// a zero or a repeat now and then.
 pub fn garbled(random: &mut Random, kind: u8, list: &[u32]) -> Day {
     let mut parts = noise(random);
     let n = list.len();
     parts.head[0] = if kind == 2 { 2 } else { random.pick(&[0, 1, 3, 258, 1 << 32 | 2, u64::MAX]) };
     parts.head[1] = n as u64;
     if random.chance(20) || n == 128 {
-        parts.head[1] = random.pick(&[n as u64, n as u64, 0, 128, 129, 1 << 32 | n as u64, u64::MAX]);
+        parts.head[1] = random.pick(&[n as u64, n as u64 / 2, 0, 128, 129, 1 << 32 | n as u64, u64::MAX]);
     }
     parts.serials[..n].copy_from_slice(list);
+    if random.chance(10) {
+        let (i, j) = (random.below(n), random.below(n));
+        parts.serials[i] = random.pick(&[0, parts.serials[j]]);
+    }
     let density = random.below(4);
     for p in 0..128 {
         let set = (0..density).fold(random.bits(), |set, _| set & random.bits());

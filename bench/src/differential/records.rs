@@ -1,28 +1,79 @@
 // Calls that take bytes and lists alone: readers, rosters in bytes, and the writer from parts.
 use super::{Run, list_length, words};
 use crate::make::{self, Group};
+use crate::plain::boards::Boards;
 use crate::plain::record::{self, Record};
 use crate::plain::{Kind, Refusal};
 use crate::proved;
 
 pub fn list(run: &mut Run) {
     let group = Group::any(&mut run.random);
+    let percent = run.random.pick(&[0, 30, 100]);
+    let seconds = make::seconds(&mut run.random, &group.roster, percent);
     for _ in 0..1 + list_length(&mut run.random) / 8 {
         // a few records in a row
-        let parts: Vec<Vec<u8>> = (0..1 + run.random.below(3)).map(|_| make::offer(&mut run.random, &group)).collect();
+        let parts: Vec<Vec<u8>> = (0..1 + run.random.below(3)).map(|_| make::offer(&mut run.random, &group, &seconds)).collect();
         let bytes = parts.concat();
+        let (firsts, seconds) = lent_boards(run, &group.roster, &seconds);
+        let boards = Boards { firsts: &firsts, seconds: &seconds };
         let mut start = 0;
         for part in &parts {
-            read(run, &bytes, start);
+            read(run, boards, &bytes, start);
             roster(run, &group, &bytes, start + 6);
             start += part.len();
         }
         let at = make::position(&mut run.random, bytes.len(), 0);
-        read(run, &bytes, at);
+        read(run, boards, &bytes, at);
         roster(run, &group, &bytes, at);
-        read_lone(run, &parts[0]);
+        read_lone(run, boards, &parts[0]);
         write(run, &group);
     }
+}
+
+// The first and second serials that a reader is lent: mostly the group's, else each list changed for itself, or both moved back alike.
+fn lent_boards(run: &mut Run, firsts: &[u32], seconds: &[u32]) -> (Vec<u32>, Vec<u32>) {
+    let (mut firsts, mut seconds) = (firsts.to_vec(), seconds.to_vec());
+    match run.random.below(10) {
+        0..5 => {}
+        5 => {
+            firsts.clear();
+            seconds.clear();
+        }
+        6 => {
+            let more = run.random.pick(&[1, 64, 127, 128, 300]);
+            firsts.splice(0..0, (0..more).map(|_| run.random.next() as u32));
+            seconds.splice(0..0, (0..more).map(|_| run.random.below(2) as u32));
+        }
+        _ => {
+            change(run, &mut firsts);
+            change(run, &mut seconds);
+        }
+    }
+    (firsts, seconds)
+}
+
+// A list becomes shorter or longer, is turned, or has a zero or a repeat in it, or stays as it is.
+fn change(run: &mut Run, list: &mut Vec<u32>) {
+    let n = list.len();
+    match run.random.below(8) {
+        0 => list.clear(),
+        1 => list.truncate(run.random.below(n)),
+        2 => list.resize_with(n + 1 + run.random.below(200), || run.random.next() as u32),
+        3 => list.rotate_left(1),
+        4 => list.extend_from_within(..),
+        5 => {
+            let (i, j) = (run.random.below(n), run.random.below(n));
+            list[i] = run.random.pick(&[0, list[j]]);
+        }
+        _ => {}
+    }
+}
+
+// What a reader was called with: a position, how many first serials there are, then first and second ones.
+fn begin(run: &mut Run, name: &'static str, at: usize, boards: Boards, bytes: &[u8]) {
+    let mut numbers = vec![at, boards.firsts.len()];
+    numbers.extend(boards.firsts.iter().chain(boards.seconds).map(|&serial| serial as usize));
+    run.begin(name, &numbers, bytes);
 }
 
 // Seven words of a record that was read, or those that were there.
@@ -35,23 +86,23 @@ fn outcome(run: &mut Run, at: usize, before: [u64; 7], plain: Result<(Record, us
     run.same("the words afterwards", &wanted, &after);
 }
 
-fn read(run: &mut Run, bytes: &[u8], at: usize) {
+fn read(run: &mut Run, boards: Boards, bytes: &[u8], at: usize) {
     let before = [0; 7].map(|_: u64| run.random.next());
     let mut after = before;
-    run.begin("read", &[at], bytes);
+    begin(run, "read", at, boards, bytes);
     let mut roster = Vec::new();
-    let plain = record::read(bytes.get(at..).unwrap_or(&[]), &mut roster).map(|record| (record, roster.len()));
-    let code = proved::read(bytes, at, &mut after);
+    let plain = record::read(bytes.get(at..).unwrap_or(&[]), boards, &mut roster).map(|record| (record, roster.len()));
+    let code = proved::read(bytes, at, boards.firsts, boards.seconds, &mut after);
     outcome(run, at, before, plain, code, after);
 }
 
-fn read_lone(run: &mut Run, bytes: &[u8]) {
+fn read_lone(run: &mut Run, boards: Boards, bytes: &[u8]) {
     let before = [0; 7].map(|_: u64| run.random.next());
     let mut after = before;
-    run.begin("read_lone", &[], bytes);
+    begin(run, "read_lone", 0, boards, bytes);
     let mut roster = Vec::new();
-    let plain = record::read_lone(bytes, &mut roster).map(|record| (record, roster.len()));
-    let code = proved::read_lone(bytes, &mut after);
+    let plain = record::read_lone(bytes, boards, &mut roster).map(|record| (record, roster.len()));
+    let code = proved::read_lone(bytes, boards.firsts, boards.seconds, &mut after);
     outcome(run, 0, before, plain, code, after);
 }
 

@@ -2,9 +2,10 @@
 use super::{Run, garbled, list_length, noise, opened, put_row, row_of, set_of, words};
 use crate::make::{self, Group};
 use crate::plain::Kind;
+use crate::plain::boards::Which;
 use crate::plain::recovery::{Answer, Offer, Recovery, Showing};
 use crate::plain::set::{Set, below, members};
-use crate::proved;
+use crate::proved::{self, Found};
 
 // The library's recovery, what it has to be, and the plain one.
 struct Pair {
@@ -16,8 +17,18 @@ struct Pair {
     opened: bool,
 }
 
-fn with_mourned(parts: proved::Day, mourned: Set) -> proved::Recovery {
-    proved::Recovery { head: parts.head, mourned: words(mourned), serials: parts.serials, rows: parts.rows }
+// A recovery from the parts that a day has too, and its own.
+fn whole(parts: proved::Day, mourned: Set, seconds: proved::Serials) -> proved::Recovery {
+    proved::Recovery { head: parts.head, mourned: words(mourned), serials: parts.serials, seconds, rows: parts.rows }
+}
+
+fn all_noise(run: &mut Run) -> proved::Recovery {
+    let seconds = [0; 128].map(|_: u32| run.random.next() as u32);
+    whole(noise(&mut run.random), run.random.bits(), seconds)
+}
+
+fn just_opened(kind: u8, list: &[u32]) -> proved::Recovery {
+    whole(opened(kind, list), 0, [0; 128])
 }
 
 pub fn list(run: &mut Run) {
@@ -26,11 +37,16 @@ pub fn list(run: &mut Run) {
     }
     let group = Group::any(&mut run.random);
     let mut pair = if run.random.chance(15) { unmade(run, group) } else { open(run, group) };
+    for _ in 0..run.random.pick(&[0, 0, 3, pair.group.roster.len()]) {
+        give(run, &mut pair);
+        run.same("the recovery afterwards", &pair.wanted, &pair.library);
+    }
     for _ in 0..list_length(&mut run.random) {
         match run.random.below(100) {
-            0..45 => offer(run, &mut pair),
-            45..60 => ask(run, &pair),
-            60..64 => find(run, &pair),
+            0..43 => offer(run, &mut pair),
+            43..47 => give(run, &mut pair),
+            47..59 => ask(run, &pair),
+            59..64 => find(run, &pair),
             64..72 => sets(run, &pair),
             72..82 => show(run, &pair),
             82..93 => check(run, &pair),
@@ -46,37 +62,41 @@ pub fn list(run: &mut Run) {
 // An opening that is refused often.
 fn try_open(run: &mut Run) {
     let (kind, list) = (make::kind(&mut run.random), make::list(&mut run.random));
-    let mut library = with_mourned(noise(&mut run.random), run.random.bits());
+    let mut library = all_noise(run);
     let before = library.clone();
     run.begin("open", &[kind as usize, list.len()], &[]);
     let plain = Recovery::open(kind, &list);
     let code = library.open(kind, &list);
     run.answer(plain.as_ref().map_or_else(|refusal| *refusal, |_| 0) as u64, code as u64);
-    run.same("the recovery afterwards", &if plain.is_ok() { with_mourned(opened(kind, &list), 0) } else { before }, &library);
+    run.same("the recovery afterwards", &if plain.is_ok() { just_opened(kind, &list) } else { before }, &library);
 }
 
 fn open(run: &mut Run, group: Group) -> Pair {
-    let mut library = with_mourned(noise(&mut run.random), run.random.bits());
+    let mut library = all_noise(run);
     run.begin("open", &[group.kind as usize, group.roster.len()], &[]);
     let code = library.open(group.kind as u8, &group.roster);
     run.answer(0, code as u64);
-    let wanted = with_mourned(opened(group.kind as u8, &group.roster), 0);
+    let wanted = just_opened(group.kind as u8, &group.roster);
     run.same("the recovery afterwards", &wanted, &library);
     let plain = Recovery::open(group.kind as u8, &group.roster).expect("a roster");
     Pair { library, wanted, plain, group, opened: true }
 }
 
-// A recovery that no call has made, and the plain one that it stands for: the rows of those that are back, as far as the roster
-// goes, and whatever is kept as the mourned set.
+// A recovery that no call has made, and the plain one that it stands for: the rows of those that are back and the second serials, as
+// far as the roster goes, and whatever is kept as the mourned set.
 fn unmade(run: &mut Run, group: Group) -> Pair {
     let parts = garbled(&mut run.random, group.kind as u8, &group.roster);
     let n = parts.head[1].min(128) as usize;
     let mut plain = Recovery::new(if parts.head[0] == 2 { Kind::Short } else { Kind::Full }, &parts.serials[..n]);
     plain.returned = set_of(&parts.head[2..]) & below(n);
     members(plain.returned).for_each(|p| plain.rows[p] = row_of(&parts.rows, p) & below(n));
+    let mut seconds = [0; 128].map(|_: u32| run.random.next() as u32);
+    let percent = run.random.pick(&[0, 30, 100]);
+    seconds[..group.roster.len()].copy_from_slice(&make::seconds(&mut run.random, &group.roster, percent));
+    plain.seconds.copy_from_slice(&seconds[..n]);
     let (named, some) = (in_rows(&plain), run.random.bits() & run.random.bits());
     plain.mourned = run.random.pick(&[named, named | some, named & some, some, 0]);
-    let library = with_mourned(parts, plain.mourned);
+    let library = whole(parts, plain.mourned, seconds);
     Pair { wanted: library.clone(), library, plain, group, opened: false }
 }
 
@@ -86,7 +106,9 @@ fn in_rows(plain: &Recovery) -> Set {
 }
 
 fn offer(run: &mut Run, pair: &mut Pair) {
-    let bytes = make::offer(&mut run.random, &pair.group);
+    // of a recovery that no call has made those behind the roster too
+    let seconds = if pair.opened { &pair.plain.seconds[..] } else { &pair.library.seconds[..] };
+    let bytes = make::offer(&mut run.random, &pair.group, seconds);
     run.begin("offer", &[], &bytes);
     let (back, kept) = (pair.plain.returned, pair.plain.mourned);
     if !pair.opened {
@@ -127,14 +149,37 @@ fn ask(run: &mut Run, pair: &Pair) {
 }
 
 fn find(run: &mut Run, pair: &Pair) {
-    let known = run.random.pick(&pair.group.roster);
+    // second serials behind the roster are not known either
+    let seconds: Vec<u32> = pair.library.seconds.iter().copied().filter(|&x| x != 0).collect();
+    let known = if seconds.is_empty() || run.random.chance(40) { run.random.pick(&pair.group.roster) } else { run.random.pick(&seconds) };
     let any = run.random.next() as u32;
-    let serial = run.random.pick(&[known, known, known ^ 1 << 16, known ^ 1, known.swap_bytes(), 0, 1, any, u32::MAX]);
+    let serial = run.random.pick(&[known, known, known, known ^ 1 << 16, known ^ 1, known.swap_bytes(), 0, 1, any, u32::MAX]);
     run.begin("find", &[serial as usize], &[]);
-    let plain = pair.plain.find(serial).unwrap_or(128);
+    let plain = match pair.plain.find(serial) {
+        Some((place, Which::First)) => Found { answer: 39, place: place as u64 },
+        Some((place, Which::Second)) => Found { answer: 40, place: place as u64 },
+        None => Found { answer: 41, place: 128 },
+    };
     let library = pair.library.find(serial);
-    run.same("place", &plain, &library);
-    run.answer((plain == 128) as u64, (library == 128) as u64);
+    run.same("found", &plain, &library);
+    run.answer(plain.answer, library.answer);
+}
+
+// Gives a second serial, mostly to a place that has none.
+fn give(run: &mut Run, pair: &mut Pair) {
+    let n = pair.plain.roster.len();
+    let mut place = make::place(&mut run.random, n);
+    if run.random.chance(70) {
+        place = (place..n).find(|&p| pair.plain.seconds[p] == 0).unwrap_or(place);
+    }
+    let serial = make::board(&mut run.random, &pair.group.roster, &pair.plain.seconds);
+    run.begin("give", &[place, serial as usize], &[]);
+    let plain = pair.plain.give(place, serial).err().unwrap_or(0);
+    let library = pair.library.give(place, serial);
+    run.answer(plain as u64, library as u64);
+    if plain == 0 {
+        pair.wanted.seconds[place] = serial;
+    }
 }
 
 fn sets(run: &mut Run, pair: &Pair) {

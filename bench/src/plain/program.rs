@@ -1,5 +1,6 @@
 // The program: records from a stream, a line for each, and then the answers.
 use super::Refusal;
+use super::boards::Boards;
 use super::record::{self, Record};
 use super::recovery::{Answer, Offer, Recovery};
 use std::io::{self, BufWriter, Read, Write};
@@ -36,7 +37,7 @@ impl<R: Read> Window<R> {
     // The next record, or nothing where the input ends between records.
     fn next(&mut self, roster: &mut Vec<u32>) -> io::Result<Option<Result<Record, Refusal>>> {
         loop {
-            let outcome = record::read(&self.bytes[self.start..self.end], roster);
+            let outcome = record::read(&self.bytes[self.start..self.end], Boards::OLD, roster);
             if outcome == Err(1) && !self.finished {
                 self.fill()?;
                 continue;

@@ -1,4 +1,5 @@
 // Stored records: reader and writer.
+use super::boards::Boards;
 use super::set::{Set, below, members};
 use super::{Kind, Refusal};
 use std::io::Write;
@@ -43,7 +44,7 @@ fn read_roster(rest: &mut &[u8], roster: &mut Vec<u32>) -> Result<(), Refusal> {
     Ok(())
 }
 
-fn read_mourned(rest: &mut &[u8], roster: &[u32]) -> Result<Set, Refusal> {
+fn read_mourned(rest: &mut &[u8], boards: Boards, roster: &[u32]) -> Result<Set, Refusal> {
     let count = byte(rest)? as usize;
     if count > roster.len() {
         return Err(3);
@@ -52,29 +53,33 @@ fn read_mourned(rest: &mut &[u8], roster: &[u32]) -> Result<Set, Refusal> {
     for _ in 0..count {
         let next = serial(rest)?;
         // in a sound record each stands ahead of the one before it
-        let Some(ahead) = roster[from..].iter().position(|&x| x == next) else {
-            return Err(if roster[..from].contains(&next) { 7 } else { 6 });
+        let place = match roster[from..].iter().position(|&x| x == next) {
+            Some(ahead) => from + ahead,
+            None => boards.find_on(roster, next).ok_or(6)?.0,
         };
-        mourned |= 1 << (from + ahead);
-        from += ahead + 1;
+        if place < from {
+            return Err(7);
+        }
+        mourned |= 1 << place;
+        from = place + 1;
     }
     Ok(mourned)
 }
 
-// The record at the front of some bytes.
-pub fn read(bytes: &[u8], roster: &mut Vec<u32>) -> Result<Record, Refusal> {
+// The record at the front of some bytes, whose own and mourned serials may be second ones.
+pub fn read(bytes: &[u8], boards: Boards, roster: &mut Vec<u32>) -> Result<Record, Refusal> {
     let mut rest = bytes;
     let kind = Kind::from_byte(byte(&mut rest)?)?;
     let own = serial(&mut rest)?;
     read_roster(&mut rest, roster)?;
-    let own = roster.iter().position(|&x| x == own).ok_or(6)?;
-    let mourned = read_mourned(&mut rest, roster)?;
+    let own = boards.find_on(roster, own).ok_or(6)?.0;
+    let mourned = read_mourned(&mut rest, boards, roster)?;
     Ok(Record { kind, own, mourned, length: bytes.len() - rest.len() })
 }
 
 // Bytes that are one record and no more.
-pub fn read_lone(bytes: &[u8], roster: &mut Vec<u32>) -> Result<Record, Refusal> {
-    let record = read(bytes, roster)?;
+pub fn read_lone(bytes: &[u8], boards: Boards, roster: &mut Vec<u32>) -> Result<Record, Refusal> {
+    let record = read(bytes, boards, roster)?;
     if record.length < bytes.len() { Err(8) } else { Ok(record) }
 }
 

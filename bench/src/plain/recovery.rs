@@ -1,4 +1,5 @@
-// A recovery: offering, asking, showing, checking.
+// A recovery: offering, giving second serials, asking, showing, checking.
+use super::boards::{Boards, Which};
 use super::record::{self, Record};
 use super::set::{Set, below, has, members};
 use super::{Kind, Refusal, check_roster};
@@ -7,6 +8,8 @@ use super::{Kind, Refusal, check_roster};
 pub struct Recovery {
     pub kind: Kind,
     pub roster: Vec<u32>,
+    // the second serial of each place, 0 where it has none
+    pub seconds: Vec<u32>,
     pub returned: Set,
     // all that returned records name
     pub mourned: Set,
@@ -37,8 +40,16 @@ pub enum Showing {
 
 impl Recovery {
     pub fn new(kind: Kind, roster: &[u32]) -> Self {
-        let rows = vec![0; roster.len()];
-        Recovery { kind, roster: roster.to_vec(), returned: 0, mourned: 0, rows, theirs: Vec::with_capacity(128) }
+        let n = roster.len();
+        Recovery {
+            kind,
+            roster: roster.to_vec(),
+            seconds: vec![0; n],
+            returned: 0,
+            mourned: 0,
+            rows: vec![0; n],
+            theirs: Vec::with_capacity(128),
+        }
     }
 
     pub fn open(kind: u8, list: &[u32]) -> Result<Self, Refusal> {
@@ -47,7 +58,7 @@ impl Recovery {
         Ok(Recovery::new(kind, list))
     }
 
-    // Goes back to nobody returned, and allocates nothing.
+    // Goes back to nobody returned, keeps the second serials, and allocates nothing.
     pub fn reset(&mut self) {
         (self.returned, self.mourned) = (0, 0);
         self.rows.fill(0);
@@ -55,7 +66,7 @@ impl Recovery {
 
     pub fn offer(&mut self, bytes: &[u8]) -> Result<Offer, Refusal> {
         let mut theirs = std::mem::take(&mut self.theirs);
-        let outcome = record::read_lone(bytes, &mut theirs).and_then(|record| self.judge(&record, &theirs));
+        let outcome = record::read_lone(bytes, self.boards(), &mut theirs).and_then(|record| self.judge(&record, &theirs));
         self.theirs = theirs;
         outcome
     }
@@ -125,8 +136,26 @@ impl Recovery {
         if place >= self.roster.len() { Err(12) } else { Ok(self.answer(place, self.mourned)) }
     }
 
-    pub fn find(&self, serial: u32) -> Option<usize> {
-        self.roster.iter().position(|&x| x == serial)
+    pub fn boards(&self) -> Boards<'_> {
+        Boards { firsts: &self.roster, seconds: &self.seconds }
+    }
+
+    pub fn find(&self, serial: u32) -> Option<(usize, Which)> {
+        self.boards().find_on(&self.roster, serial)
+    }
+
+    pub fn give(&mut self, place: usize, serial: u32) -> Result<(), Refusal> {
+        if place >= self.roster.len() {
+            return Err(12);
+        }
+        if serial == 0 {
+            return Err(4);
+        }
+        if self.find(serial).is_some() || self.seconds[place] != 0 {
+            return Err(16);
+        }
+        self.seconds[place] = serial;
+        Ok(())
     }
 
     pub fn unmourned(&self) -> Set {

@@ -1,4 +1,5 @@
-// The plain implementation by itself: document 01's listing and cases, and all histories of small rosters.
+// The plain implementation by itself: document 01's listing and cases, board swaps, and all histories of small rosters.
+mod boards;
 mod cases;
 mod histories;
 mod records;
@@ -16,6 +17,11 @@ pub fn run() {
         ("faults of a record", records::faults),
         ("lists of serials", records::lists),
         ("writing and reading", records::round_trips),
+        ("second serials given", boards::given),
+        ("second serials found", boards::found),
+        ("records read with second serials", boards::read),
+        ("records offered with second serials", boards::offered),
+        ("either serial, one meaning", boards::meaning),
         ("all histories, up to 3 members", histories::enumeration),
         ("days", histories::days),
     ] {
@@ -60,6 +66,7 @@ fn streams() -> u64 {
     for (input, wanted) in [
         (vec![], "no records\n"),
         (vec![7], "record 1 refused 2\nno records\n"),
+        (lone(9, &[]), "record 1 refused 6\nno records\n"),
         (first[..22].to_vec(), "record 1 refused 1\nno records\n"),
         (itself.clone(), "record 1 refused 11\n7 open\n8 open\nwhole open\n"),
         (
@@ -80,5 +87,5 @@ fn streams() -> u64 {
     // longer than any window, and a record across each border
     let output = output_of(&first.repeat(10_000));
     assert_eq!(output.lines().filter(|line| line.ends_with("repeated")).count(), 9_999);
-    8
+    9
 }

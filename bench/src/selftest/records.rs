@@ -1,6 +1,7 @@
 // Faults of records and of lists of serials, and records written and read again.
 use super::hex;
 use crate::make::Group;
+use crate::plain::boards::{Boards, Which};
 use crate::plain::day::Day;
 use crate::plain::record;
 use crate::plain::recovery::{Offer, Recovery};
@@ -43,7 +44,7 @@ pub fn faults() -> u64 {
         (format!("01 00000001 80 {} 81 {}", many(128), many(128)), 3),
     ];
     for (text, wanted) in &table {
-        let got = record::read_lone(&hex(text), &mut Vec::new());
+        let got = record::read_lone(&hex(text), Boards::OLD, &mut Vec::new());
         assert_eq!(got.map_or_else(|refusal| refusal, |_| 0), *wanted, "{text}");
     }
     let longest = hex(&table[28].0);
@@ -74,7 +75,7 @@ pub fn lists() -> u64 {
     let low_bits: Vec<u32> = (1..=128).map(|k| k * 65_536).collect();
     let r = Recovery::open(1, &low_bits).unwrap();
     for k in 0..128u32 {
-        assert_eq!(r.find((k + 1) * 65_536), Some(k as usize));
+        assert_eq!(r.find((k + 1) * 65_536), Some((k as usize, Which::First)));
         assert_eq!(r.find(k * 65_536 + 1), None);
     }
     table.len() as u64 + 128

@@ -13,6 +13,7 @@ use Rattle.rows.specs.Rows.{withRow}
 use Rattle.records.specs.declared.Record.{Record}
 use Rattle.records.specs.declared.Reading.the-variants as R
 use Rattle.records.specs.Records.{readingLone}
+use Rattle.groups.specs.Groups.{aliasIn}
 use Rattle.replies.specs.declared.Reply.{Reply}
 use Rattle.replies.specs.declared.Reply.the-variants as O
 use Rattle.replies.specs.Replies.{judgement}
@@ -58,24 +59,24 @@ module _ (head mourned rows : List ℕ) (p : ℕ) (M : Row) (reply : Reply) wher
   abbrev pub Leaves : ℕ → List ℕ → List ℕ → List ℕ → Type 0
   Leaves c h k t =
       (c ≡ replyCode reply)
-      × (((serials : List ℕ) → h ≡ withSet head (answered (recoveryIn head mourned serials rows) p M reply .recovery .returned))
-      × (((serials : List ℕ) → k ≡ setWords (answered (recoveryIn head mourned serials rows) p M reply .recovery .mourned))
-      × ((serials : List ℕ) → t ≡ answered (recoveryIn head mourned serials rows) p M reply .recovery .rows)
+      × (((serials seconds : List ℕ) → h ≡ withSet head (answered (recoveryIn head mourned serials seconds rows) p M reply .recovery .returned))
+      × (((serials seconds : List ℕ) → k ≡ setWords (answered (recoveryIn head mourned serials seconds rows) p M reply .recovery .mourned))
+      × ((serials seconds : List ℕ) → t ≡ answered (recoveryIn head mourned serials seconds rows) p M reply .recovery .rows)
       ))
 
   pub leaves-taken : (h k t : List ℕ) → reply ≡ O.Taken
       → (h ≡ withSet head (packed (with p (has (setIn head))))) × ((k ≡ setWords (packed (union (has (setAt mourned)) M))) × (t ≡ withRow rows p (packed M))) → Leaves 0 h k t
   unfolding replyCode answered keeping recoveryIn
-  leaves-taken h k t e (a, (b, d)) = rw e (refl, (λ serials. a, (λ serials. b, λ serials. d)))
+  leaves-taken h k t e (a, (b, d)) = rw e (refl, (λ serials seconds. a, (λ serials seconds. b, λ serials seconds. d)))
 
   module _ (l : length head ≡ 4) (m : length mourned ≡ 2) where
     pub leaves-repeated : reply ≡ O.Repeated → Leaves 32 head mourned rows
     unfolding replyCode answered saying recoveryIn
-    leaves-repeated e = rw e (refl, (λ serials. same-set head l, (λ serials. same-words mourned m, λ serials. refl)))
+    leaves-repeated e = rw e (refl, (λ serials seconds. same-set head l, (λ serials seconds. same-words mourned m, λ serials seconds. refl)))
 
     pub leaves-refused : (j : ℕ) → reply ≡ O.Refused j → Leaves j head mourned rows
     unfolding replyCode answered saying recoveryIn
-    leaves-refused j e = rw e (refl, (λ serials. same-set head l, (λ serials. same-words mourned m, λ serials. refl)))
+    leaves-refused j e = rw e (refl, (λ serials seconds. same-set head l, (λ serials seconds. same-words mourned m, λ serials seconds. refl)))
 
 answered-reply : (r : Recovery) (p : ℕ) (M : Row) (a : Reply) → a ≡ answered r p M a .answer
 unfolding answered saying
@@ -83,29 +84,29 @@ answered-reply r p M O.Taken = refl
 answered-reply r p M O.Repeated = refl
 answered-reply r p M (O.Refused j) = refl
 
-module _ (head mourned serials rows bytes : List ℕ) where
+module _ (head mourned serials seconds rows bytes : List ℕ) where
   -- what a call answers and leaves is what offering does
   abbrev pub Offers : ℕ → List ℕ → List ℕ → List ℕ → Type 0
   Offers c h k t =
-      (c ≡ offeredHeld head mourned serials rows bytes .code)
-      × ((h ≡ offeredHeld head mourned serials rows bytes .head)
-      × ((k ≡ offeredHeld head mourned serials rows bytes .mourned) × (t ≡ offeredHeld head mourned serials rows bytes .rows))
+      (c ≡ offeredHeld head mourned serials seconds rows bytes .code)
+      × ((h ≡ offeredHeld head mourned serials seconds rows bytes .head)
+      × ((k ≡ offeredHeld head mourned serials seconds rows bytes .mourned) × (t ≡ offeredHeld head mourned serials seconds rows bytes .rows))
       )
 
-  pub offers-read : (h : Head) → Says head h → (x : Record) → readingLone bytes ≡ R.Read x
+  pub offers-read : (h : Head) → Says head h → (x : Record) → readingLone (aliasIn (h .count) serials seconds) bytes ≡ R.Read x
       → (reply : Reply) → reply ≡ judgement (h .kind) (h .count) serials (has (h .set)) rows bytes x
       → (c : ℕ) (after named t : List ℕ) → Leaves head mourned rows (x .own .0) (has (x .mourned)) reply c after named t → Offers c after named t
   unfolding offeredHeld recoveryIn
   offers-read h says x e reply f c after named t (lc, (lh, (lm, lt))) = (
     lc ∙ ap replyCode (answered-reply r p M reply) ∙ ap (λ (o : Offered). replyCode (o .answer)) is,
     (
-      lh serials ∙ ap (λ (o : Offered). withSet head (o .recovery .returned)) is,
-      (lm serials ∙ ap (λ (o : Offered). setWords (o .recovery .mourned)) is, lt serials ∙ ap (λ (o : Offered). o .recovery .rows) is),
+      lh serials seconds ∙ ap (λ (o : Offered). withSet head (o .recovery .returned)) is,
+      (lm serials seconds ∙ ap (λ (o : Offered). setWords (o .recovery .mourned)) is, lt serials seconds ∙ ap (λ (o : Offered). o .recovery .rows) is),
     ),
   )
     where
       r : Recovery
-      r = recoveryIn head mourned serials rows
+      r = recoveryIn head mourned serials seconds rows
 
       p : ℕ
       p = x .own .0
@@ -117,12 +118,12 @@ module _ (head mourned serials rows bytes : List ℕ) where
       judged = f ∙ (λ i. judgement (says .0 i) (says .1 .0 i) serials (has (says .1 .1 i)) rows bytes x)
 
       is : answered r p M reply ≡ offered r bytes
-      is = ap (answered r p M) judged ∙ offered-read r bytes x e
+      is = ap (answered r p M) judged ∙ offered-read r bytes x (ap (λ (n : ℕ). readingLone (aliasIn n serials seconds) bytes) (sym (says .1 .0)) ∙ e)
 
-  pub offers-unread : (j : ℕ) → readingLone bytes ≡ R.Refused j → length head ≡ 4 → length mourned ≡ 2 → Offers j head mourned rows
+  pub offers-unread : (h : Head) → Says head h → (j : ℕ) → readingLone (aliasIn (h .count) serials seconds) bytes ≡ R.Refused j → length head ≡ 4 → length mourned ≡ 2 → Offers j head mourned rows
   unfolding offeredHeld recoveryIn replyCode saying
-  offers-unread j e l m =
-      let is = offered-unread (recoveryIn head mourned serials rows) bytes j e in (
+  offers-unread h says j e l m =
+      let is = offered-unread (recoveryIn head mourned serials seconds rows) bytes j (ap (λ (n : ℕ). readingLone (aliasIn n serials seconds) bytes) (sym (says .1 .0)) ∙ e) in (
         ap (λ (o : Offered). replyCode (o .answer)) is,
         (
           same-set head l ∙ ap (λ (o : Offered). withSet head (o .recovery .returned)) is,

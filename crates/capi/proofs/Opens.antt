@@ -10,25 +10,26 @@ use Rattle.executions.specs.declared.Opening.the-variants as B
 use Rattle.executions.specs.Contracts.{begun}
 use Rattle.capi.specs.Boundary.{headOf, setWords, openedAs, openedHeld, begunAs, begunHeld}
 
-module _ (kind : ℕ) (s head mourned serials rows : List ℕ) where
-  -- the number, the words, the mourned places, the serials and the rows are those of opening
-  abbrev pub Opens : ℕ → List ℕ → List ℕ → List ℕ → List ℕ → Type 0
-  Opens c h k a t =
-      (c ≡ openedHeld kind s head mourned serials rows .code)
-      × ((h ≡ openedHeld kind s head mourned serials rows .head)
-      × ((k ≡ openedHeld kind s head mourned serials rows .mourned)
-      × ((a ≡ openedHeld kind s head mourned serials rows .serials) × (t ≡ openedHeld kind s head mourned serials rows .rows))
-      ))
+module _ (kind : ℕ) (s head mourned serials seconds rows : List ℕ) where
+  -- the number, the words, the mourned places, the serials of both kinds and the rows are those of opening
+  abbrev pub Opens : ℕ → List ℕ → List ℕ → List ℕ → List ℕ → List ℕ → Type 0
+  Opens c h k a b t =
+      (c ≡ openedHeld kind s head mourned serials seconds rows .code)
+      × ((h ≡ openedHeld kind s head mourned serials seconds rows .head)
+      × ((k ≡ openedHeld kind s head mourned serials seconds rows .mourned)
+      × ((a ≡ openedHeld kind s head mourned serials seconds rows .serials)
+      × ((b ≡ openedHeld kind s head mourned serials seconds rows .seconds) × (t ≡ openedHeld kind s head mourned serials seconds rows .rows))
+      )))
 
   module _ (o : Opened) (is : o ≡ opened kind s) where
     pub opens-done : o .answer ≡ G.Opened → (h k : List ℕ) → h ≡ headOf (o .recovery .kind) (o .recovery .count) (o .recovery .returned) → k ≡ setWords (o .recovery .mourned)
-        → Opens 0 h k (o .recovery .serials) (o .recovery .rows)
+        → Opens 0 h k (o .recovery .serials) (o .recovery .seconds) (o .recovery .rows)
     unfolding openedHeld openedAs
-    opens-done e h k f g = rw (← is, e) (refl, (f, (g, (refl, refl))))
+    opens-done e h k f g = rw (← is, e) (refl, (f, (g, (refl, (refl, refl)))))
 
-    pub opens-refused : (j : ℕ) → o .answer ≡ G.Refused j → Opens j head mourned serials rows
+    pub opens-refused : (j : ℕ) → o .answer ≡ G.Refused j → Opens j head mourned serials seconds rows
     unfolding openedHeld openedAs
-    opens-refused j e = rw (← is, e) (refl, (refl, (refl, (refl, refl))))
+    opens-refused j e = rw (← is, e) (refl, (refl, (refl, (refl, (refl, refl)))))
 
 module _ (kind : ℕ) (s head serials rows : List ℕ) where
   -- the same for a day, which has no mourned places

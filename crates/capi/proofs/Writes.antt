@@ -29,30 +29,30 @@ module _ (head : List ℕ) (h : Head) (says : Says head h) (serials rows : List 
   -- the answer and the buffer, whatever the mourned places are
   abbrev pub Backs : Writing → List ℕ → Type 0
   Backs a after =
-      ((mourned : List ℕ) → a ≡ writtenOf (recoveryIn head mourned serials rows) p out at .answer)
-      × ((mourned : List ℕ) → after ≡ writtenOf (recoveryIn head mourned serials rows) p out at .buffer)
+      ((mourned seconds : List ℕ) → a ≡ writtenOf (recoveryIn head mourned serials seconds rows) p out at .answer)
+      × ((mourned seconds : List ℕ) → after ≡ writtenOf (recoveryIn head mourned serials seconds rows) p out at .buffer)
 
-  backs : (a : Writing) (after : List ℕ) → ((named : PlaceSet) → Leaves (partsOf h named serials rows) p out at a after) → Backs a after
-  backs a after l = (λ m. in-memory m .0, λ m. in-memory m .1)
+  backs : (a : Writing) (after : List ℕ) → ((named : PlaceSet) (seconds : List ℕ) → Leaves (partsOf h named serials seconds rows) p out at a after) → Backs a after
+  backs a after l = (λ m s. in-memory m s .0, λ m s. in-memory m s .1)
     where
-      in-memory : (mourned : List ℕ) → Leaves (recoveryIn head mourned serials rows) p out at a after
-      in-memory mourned = subst (λ (r : Recovery). Leaves r p out at a after) (held head mourned h (setAt mourned) says refl serials rows) (l (setAt mourned))
+      in-memory : (mourned seconds : List ℕ) → Leaves (recoveryIn head mourned serials seconds rows) p out at a after
+      in-memory mourned seconds = subst (λ (r : Recovery). Leaves r p out at a after) (held head mourned h (setAt mourned) says refl serials seconds rows) (l (setAt mourned) seconds)
 
   pub back-12 : size (h .count) ≤ p → Backs (W.Refused 12) out
   unfolding sizeOf
-  back-12 l = backs (W.Refused 12) out (λ m. write-12 (partsOf h m serials rows) p out at l)
+  back-12 l = backs (W.Refused 12) out (λ m s. write-12 (partsOf h m serials s rows) p out at l)
 
   module _ (l : p < size (h .count)) where
     pub back-14 : has (h .set) p ≡ false → Backs (W.Refused 14) out
     unfolding sizeOf
-    back-14 e = backs (W.Refused 14) out (λ m. write-14 (partsOf h m serials rows) p out at l e)
+    back-14 e = backs (W.Refused 14) out (λ m s. write-14 (partsOf h m serials s rows) p out at l e)
 
     pub back-written : has (h .set) p ≡ true → (n : ℕ) → n ≡ size (h .count) → n ≡ length (take n serials)
         → (row : PlaceSet) → has row ≡ rule.recorded (acceptedIn (h .count) (has (h .set)) rows) p → (a : Writing) (after : List ℕ)
         → (a ≡ written (h .kind) p (take n serials) (has row) out at .answer) × (after ≡ written (h .kind) p (take n serials) (has row) out at .buffer)
         → Backs a after
     unfolding sizeOf acceptedOf
-    back-written b n is all row e a after w = backs a after (λ m. write-back (partsOf h m serials rows) p out at l b n is all row e a after w)
+    back-written b n is all row e a after w = backs a after (λ m s. write-back (partsOf h m serials s rows) p out at l b n is all row e a after w)
 
 -- ---- where it ends, as two words
 

@@ -1,5 +1,5 @@
 -- The boundary to C: a recovery or a day as four words, 128 serials and 2,048 bytes of rows in the caller's memory, of a recovery
--- two words of mourned places too, and document 01's answers as numbers. Assumes nothing.
+-- two words of mourned places and 128 second serials too, and document 01's answers as numbers. Assumes nothing.
 use mathlib.Core.Bool.{Bool, cond}
 use mathlib.Core.List.{List, [], _∷_}
 use Prim.Native.Nat.{ℕ}
@@ -8,8 +8,10 @@ use lib.Dec.{eqb}
 use Rattle.places.specs.Sets.{Places}
 use Rattle.places.specs.PlaceSets.{packed}
 use Rattle.places.specs.declared.PlaceSet.{PlaceSet}
-use Rattle.places.specs.declared.Found.{Found}
-use Rattle.places.specs.declared.Found.the-variants.{At, Nothing}
+use Rattle.rosters.specs.declared.Finding.{Finding}
+use Rattle.rosters.specs.declared.Finding.the-variants as F
+use Rattle.groups.specs.declared.Giving.{Giving}
+use Rattle.groups.specs.declared.Giving.the-variants as Y
 use Rattle.histories.specs.declared.Kind.{Kind}
 use Rattle.histories.specs.declared.Kind.the-variants.{Full, Short}
 use Rattle.records.specs.Layout.{kindByte, knownKind, kindOf}
@@ -39,6 +41,7 @@ use Rattle.executions.specs.declared.Opening.the-variants as B
 use Rattle.executions.specs.declared.Played.{Played}
 use Rattle.executions.specs.Contracts.{begun, happened, stepped, played}
 use Rattle.capi.specs.declared.End.{End}
+use Rattle.capi.specs.declared.FoundNow.{FoundNow}
 use Rattle.capi.specs.declared.DayNow.{DayNow}
 use Rattle.capi.specs.declared.EventNow.{EventNow}
 use Rattle.capi.specs.declared.PlayedNow.{PlayedNow}
@@ -59,9 +62,16 @@ setAt w = record { low = getD w 0 0; high = getD w 1 0 }
 unfoldable pub setWords : PlaceSet → List ℕ
 setWords s = s .low ∷ s .high ∷ []
 
-unfoldable pub recoveryIn : List ℕ → List ℕ → List ℕ → List ℕ → Recovery
-recoveryIn head mourned serials rows =
-    record { kind = kindIn head; count = getD head 1 0; serials = serials; returned = setIn head; mourned = setAt mourned; rows = rows }
+unfoldable pub recoveryIn : List ℕ → List ℕ → List ℕ → List ℕ → List ℕ → Recovery
+recoveryIn head mourned serials seconds rows = record {
+  kind = kindIn head;
+  count = getD head 1 0;
+  serials = serials;
+  seconds = seconds;
+  returned = setIn head;
+  mourned = setAt mourned;
+  rows = rows;
+}
 
 unfoldable pub dayIn : List ℕ → List ℕ → List ℕ → Day
 dayIn head serials rows = record { kind = kindIn head; count = getD head 1 0; serials = serials; stopped = setIn head; rows = rows }
@@ -79,6 +89,7 @@ pub record Held : Type 0 where
   pub head : List ℕ
   pub mourned : List ℕ
   pub serials : List ℕ
+  pub seconds : List ℕ
   pub rows : List ℕ
 
 pub record DayHeld : Type 0 where
@@ -114,10 +125,15 @@ checkedCode (C.Refused j) = j
 unfoldable pub yesCode : Bool → ℕ
 yesCode b = cond b 1 0
 
--- the place that was found, or 128, which is no place
-unfoldable pub foundCode : Found → ℕ
-foundCode (At p) = p .0
-foundCode Nothing = 128
+-- which of the place's two serials was found, and the place; 128, which is no place, where none was
+unfoldable pub foundOf : Finding → FoundNow
+foundOf (F.First p) = record { answer = 39; place = p .0 }
+foundOf (F.Second p) = record { answer = 40; place = p .0 }
+foundOf F.Nothing = record { answer = 41; place = 128 }
+
+unfoldable pub givingCode : Giving → ℕ
+givingCode Y.Given = 0
+givingCode (Y.Refused j) = j
 
 -- the refusal, or 0 and where the record ends
 unfoldable pub endOf : Writing → End
@@ -130,13 +146,13 @@ wordsOf S = setWords (packed S)
 
 -- ---- opening: the caller's memory is written only where it is opened
 
-unfoldable pub openedAs : Opening → Recovery → List ℕ → List ℕ → List ℕ → List ℕ → Held
-openedAs G.Opened r head mourned serials rows =
-    record { code = 0; head = headOf (r .kind) (r .count) (r .returned); mourned = setWords (r .mourned); serials = r .serials; rows = r .rows }
-openedAs (G.Refused j) r head mourned serials rows = record { code = j; head = head; mourned = mourned; serials = serials; rows = rows }
+unfoldable pub openedAs : Opening → Recovery → List ℕ → List ℕ → List ℕ → List ℕ → List ℕ → Held
+openedAs G.Opened r head mourned serials seconds rows =
+    record { code = 0; head = headOf (r .kind) (r .count) (r .returned); mourned = setWords (r .mourned); serials = r .serials; seconds = r .seconds; rows = r .rows }
+openedAs (G.Refused j) r head mourned serials seconds rows = record { code = j; head = head; mourned = mourned; serials = serials; seconds = seconds; rows = rows }
 
-unfoldable pub openedHeld : ℕ → List ℕ → List ℕ → List ℕ → List ℕ → List ℕ → Held
-openedHeld kind s head mourned serials rows = openedAs (opened kind s .answer) (opened kind s .recovery) head mourned serials rows
+unfoldable pub openedHeld : ℕ → List ℕ → List ℕ → List ℕ → List ℕ → List ℕ → List ℕ → Held
+openedHeld kind s head mourned serials seconds rows = openedAs (opened kind s .answer) (opened kind s .recovery) head mourned serials seconds rows
 
 unfoldable pub begunAs : day.Opening → Day → List ℕ → List ℕ → List ℕ → DayHeld
 begunAs B.Opened d head serials rows = record { code = 0; head = headOf (d .kind) (d .count) (d .stopped); serials = d .serials; rows = d .rows }
@@ -147,14 +163,15 @@ begunHeld kind s head serials rows = begunAs (begun kind s .answer) (begun kind 
 
 -- ---- offering a lone record
 
-unfoldable pub offeredHeld : List ℕ → List ℕ → List ℕ → List ℕ → List ℕ → Held
-offeredHeld head mourned serials rows bytes =
+unfoldable pub offeredHeld : List ℕ → List ℕ → List ℕ → List ℕ → List ℕ → List ℕ → Held
+offeredHeld head mourned serials seconds rows bytes =
     record {
-      code = replyCode (offered (recoveryIn head mourned serials rows) bytes .answer);
-      head = withSet head (offered (recoveryIn head mourned serials rows) bytes .recovery .returned);
-      mourned = setWords (offered (recoveryIn head mourned serials rows) bytes .recovery .mourned);
+      code = replyCode (offered (recoveryIn head mourned serials seconds rows) bytes .answer);
+      head = withSet head (offered (recoveryIn head mourned serials seconds rows) bytes .recovery .returned);
+      mourned = setWords (offered (recoveryIn head mourned serials seconds rows) bytes .recovery .mourned);
       serials = serials;
-      rows = offered (recoveryIn head mourned serials rows) bytes .recovery .rows;
+      seconds = seconds;
+      rows = offered (recoveryIn head mourned serials seconds rows) bytes .recovery .rows;
     }
 
 -- ---- one event of a day

@@ -1,31 +1,33 @@
 // The library as C links it. A recovery and a day are arrays in the caller's memory: four words (the kind, the count, two words of the
-// places that are back, or have stopped), 128 serials, 2,048 bytes of rows, and of a recovery two words of its mourned places. Nothing is kept between calls, and every input has an
-// answer: include/goatmonth.h says what a caller promises of its pointers. specs/Boundary.antt has the numbers of the answers.
+// places that are back, or have stopped), 128 serials, 2,048 bytes of rows, and of a recovery two words of its mourned places and 128
+// second serials. Nothing is kept between calls, and every input has an answer: include/goatmonth.h says what a caller promises of its
+// pointers. specs/Boundary.antt has the numbers of the answers.
 ghost use mathlib.Core.Path.{_≡_};
 ghost use mathlib.Core.Bool.{cond};
 ghost use mathlib.Core.List.{List, [], _∷_};
-ghost use Prim.Native.Nat.{ℕ, _≤_};
-ghost use lib.ListN.{length, take, getD};
+ghost use Prim.Native.Nat.{ℕ};
+ghost use lib.ListN.{length, getD};
 ghost use lib.Dec.{ltb};
-ghost use Rattle.places.specs.PlaceSets.{has, found};
-ghost use Rattle.rosters.specs.Rosters.{placeOf};
+ghost use Rattle.places.specs.PlaceSets.{has};
+ghost use Rattle.rosters.specs.Seconds.{countsAs};
 ghost use Rattle.records.specs.Layout.{kindByte};
 ghost use Rattle.records.specs.Records.{reading, readingLone, rosterIs, copiable, copied};
-ghost use Rattle.recovery.specs.Contracts.{answered, asked, shown, checked, settledOf, unmournedOf, unmournedAbsentOf, unmournedCountOf, foundIn, writtenOf};
+ghost use Rattle.recovery.specs.Contracts.{answered, asked, shown, checked, settledOf, unmournedOf, unmournedAbsentOf, unmournedCountOf, foundIn, given, writtenOf};
 ghost use Rattle.executions.specs.Contracts as days;
-ghost use Rattle.capi.specs.Boundary.{kindIn, setIn, recoveryIn, dayIn, setAt, setWords, eventOf, headOf, withSet, openedHeld, begunHeld, offeredHeld, happenedHeld, dayOf, dayNow, playedNow, steppedNow, replyCode, askedCode, showingCode, checkedCode, yesCode, foundCode, endOf, wordsOf, readCode, readWords, writtenParts};
+ghost use Rattle.capi.specs.Boundary.{kindIn, setIn, recoveryIn, dayIn, setAt, setWords, eventOf, headOf, withSet, openedHeld, begunHeld, offeredHeld, happenedHeld, dayOf, dayNow, playedNow, steppedNow, replyCode, askedCode, showingCode, checkedCode, yesCode, foundOf, givingCode, endOf, wordsOf, readCode, readWords, writtenParts};
 use answers::Answer;
 use executions::Day;
 use executions::Event;
 use executions::Played;
+use groups::Giving;
 use histories::Kind;
-use places::Found;
 use places::Place;
 use places::PlaceSet;
 use records::Reading;
 use records::Writing;
 use recovery::Opening;
 use replies::Reply;
+use rosters::Finding;
 use rosters::Serial;
 use shows::Showing;
 
@@ -34,6 +36,13 @@ use shows::Showing;
 pub struct End {
     pub refusal: u64,
     pub next: u64,
+}
+
+// What finding a serial gives: which of the place's two it is, and the place.
+#[repr(C)]
+pub struct FoundNow {
+    pub answer: u64,
+    pub place: u64,
 }
 
 // A day by value: its four words, its serials and its rows.
@@ -150,12 +159,22 @@ fn yes_code(b: bool) -> u8
     0
 }
 
-fn found_code(found: Found) -> usize
-    ensures { λ r. ⌜ r ≡ foundCode found ⌝ }
+fn found_now(found: Finding) -> FoundNow
+    ensures { λ r. ⌜ r ≡ foundOf found ⌝ }
 {
     match found {
-        Found::At(place) => place.0,
-        Found::Nothing => 128,
+        Finding::First(place) => FoundNow {
+            answer: 39,
+            place: place.0 as u64,
+        },
+        Finding::Second(place) => FoundNow {
+            answer: 40,
+            place: place.0 as u64,
+        },
+        Finding::Nothing => FoundNow {
+            answer: 41,
+            place: 128,
+        },
     }
 }
 
@@ -194,13 +213,15 @@ pub extern "C" fn gm_open(
     head: &mut [u64; 4],
     mourned: &mut [u64; 2],
     serials: &mut [u32; 128],
+    seconds: &mut [u32; 128],
     rows: &mut [u8; 2048],
 ) -> u8
-    ensures { λ r. ⌜ r ≡ openedHeld kind (now (list .entry)) (now (head .entry)) (now (mourned .entry)) (now (serials .entry)) (now (rows .entry)) .code ⌝ }
-    ensures { λ r. ⌜ now (head .exit) ≡ openedHeld kind (now (list .entry)) (now (head .entry)) (now (mourned .entry)) (now (serials .entry)) (now (rows .entry)) .head ⌝ }
-    ensures { λ r. ⌜ now (mourned .exit) ≡ openedHeld kind (now (list .entry)) (now (head .entry)) (now (mourned .entry)) (now (serials .entry)) (now (rows .entry)) .mourned ⌝ }
-    ensures { λ r. ⌜ now (serials .exit) ≡ openedHeld kind (now (list .entry)) (now (head .entry)) (now (mourned .entry)) (now (serials .entry)) (now (rows .entry)) .serials ⌝ }
-    ensures { λ r. ⌜ now (rows .exit) ≡ openedHeld kind (now (list .entry)) (now (head .entry)) (now (mourned .entry)) (now (serials .entry)) (now (rows .entry)) .rows ⌝ }
+    ensures { λ r. ⌜ r ≡ openedHeld kind (now (list .entry)) (now (head .entry)) (now (mourned .entry)) (now (serials .entry)) (now (seconds .entry)) (now (rows .entry)) .code ⌝ }
+    ensures { λ r. ⌜ now (head .exit) ≡ openedHeld kind (now (list .entry)) (now (head .entry)) (now (mourned .entry)) (now (serials .entry)) (now (seconds .entry)) (now (rows .entry)) .head ⌝ }
+    ensures { λ r. ⌜ now (mourned .exit) ≡ openedHeld kind (now (list .entry)) (now (head .entry)) (now (mourned .entry)) (now (serials .entry)) (now (seconds .entry)) (now (rows .entry)) .mourned ⌝ }
+    ensures { λ r. ⌜ now (serials .exit) ≡ openedHeld kind (now (list .entry)) (now (head .entry)) (now (mourned .entry)) (now (serials .entry)) (now (seconds .entry)) (now (rows .entry)) .serials ⌝ }
+    ensures { λ r. ⌜ now (seconds .exit) ≡ openedHeld kind (now (list .entry)) (now (head .entry)) (now (mourned .entry)) (now (serials .entry)) (now (seconds .entry)) (now (rows .entry)) .seconds ⌝ }
+    ensures { λ r. ⌜ now (rows .exit) ≡ openedHeld kind (now (list .entry)) (now (head .entry)) (now (mourned .entry)) (now (serials .entry)) (now (seconds .entry)) (now (rows .entry)) .rows ⌝ }
 {
     let opened = recovery::open(kind, list);
     let answer = opened.answer;
@@ -209,12 +230,14 @@ pub extern "C" fn gm_open(
     let returned = r.returned;
     let named = r.mourned;
     let roster = r.serials;
+    let others = r.seconds;
     let recorded = r.rows;
     match answer {
         Opening::Opened => {
             write_head(head, kind, r.count, returned);
             put_set(mourned, named);
             *serials = roster;
+            *seconds = others;
             *rows = recorded;
             0
         }
@@ -234,9 +257,9 @@ fn answer_with(
 ) -> u8
     requires { ⌜ (length (now mourned) ≡ 2) × (named ≡ setAt (now mourned)) ⌝ }
     ensures { λ r. ⌜ r ≡ replyCode reply ⌝ }
-    ensures { λ r. ⌜ ((serials : List ℕ) → now (head .exit) ≡ withSet (now (head .entry)) (answered (recoveryIn (now (head .entry)) (now (mourned .entry)) serials (now (rows .entry))) (own .0) (has row) reply .recovery .returned)) ⌝ }
-    ensures { λ r. ⌜ ((serials : List ℕ) → now (mourned .exit) ≡ setWords (answered (recoveryIn (now (head .entry)) (now (mourned .entry)) serials (now (rows .entry))) (own .0) (has row) reply .recovery .mourned)) ⌝ }
-    ensures { λ r. ⌜ ((serials : List ℕ) → now (rows .exit) ≡ answered (recoveryIn (now (head .entry)) (now (mourned .entry)) serials (now (rows .entry))) (own .0) (has row) reply .recovery .rows) ⌝ }
+    ensures { λ r. ⌜ ((serials seconds : List ℕ) → now (head .exit) ≡ withSet (now (head .entry)) (answered (recoveryIn (now (head .entry)) (now (mourned .entry)) serials seconds (now (rows .entry))) (own .0) (has row) reply .recovery .returned)) ⌝ }
+    ensures { λ r. ⌜ ((serials seconds : List ℕ) → now (mourned .exit) ≡ setWords (answered (recoveryIn (now (head .entry)) (now (mourned .entry)) serials seconds (now (rows .entry))) (own .0) (has row) reply .recovery .mourned)) ⌝ }
+    ensures { λ r. ⌜ ((serials seconds : List ℕ) → now (rows .exit) ≡ answered (recoveryIn (now (head .entry)) (now (mourned .entry)) serials seconds (now (rows .entry))) (own .0) (has row) reply .recovery .rows) ⌝ }
 {
     let h = read_head(head);
     let returned = h.set;
@@ -254,23 +277,24 @@ fn answer_with(
 
 // Offers a lone record: 1 to 11, 32 for repeated, or 0 for taken.
 #[no_mangle]
-pub extern "C" fn gm_offer(
+pub extern "C" fn gm_offer<'a>(
     head: &mut [u64; 4],
     mourned: &mut [u64; 2],
-    serials: &[u32; 128],
+    serials: &'a [u32; 128],
+    seconds: &'a [u32; 128],
     rows: &mut [u8; 2048],
     bytes: &[u8],
 ) -> u8
-    ensures { λ r. ⌜ r ≡ offeredHeld (now (head .entry)) (now (mourned .entry)) (now (serials .entry)) (now (rows .entry)) (now (bytes .entry)) .code ⌝ }
-    ensures { λ r. ⌜ now (head .exit) ≡ offeredHeld (now (head .entry)) (now (mourned .entry)) (now (serials .entry)) (now (rows .entry)) (now (bytes .entry)) .head ⌝ }
-    ensures { λ r. ⌜ now (mourned .exit) ≡ offeredHeld (now (head .entry)) (now (mourned .entry)) (now (serials .entry)) (now (rows .entry)) (now (bytes .entry)) .mourned ⌝ }
-    ensures { λ r. ⌜ now (rows .exit) ≡ offeredHeld (now (head .entry)) (now (mourned .entry)) (now (serials .entry)) (now (rows .entry)) (now (bytes .entry)) .rows ⌝ }
+    ensures { λ r. ⌜ r ≡ offeredHeld (now (head .entry)) (now (mourned .entry)) (now (serials .entry)) (now (seconds .entry)) (now (rows .entry)) (now (bytes .entry)) .code ⌝ }
+    ensures { λ r. ⌜ now (head .exit) ≡ offeredHeld (now (head .entry)) (now (mourned .entry)) (now (serials .entry)) (now (seconds .entry)) (now (rows .entry)) (now (bytes .entry)) .head ⌝ }
+    ensures { λ r. ⌜ now (mourned .exit) ≡ offeredHeld (now (head .entry)) (now (mourned .entry)) (now (serials .entry)) (now (seconds .entry)) (now (rows .entry)) (now (bytes .entry)) .mourned ⌝ }
+    ensures { λ r. ⌜ now (rows .exit) ≡ offeredHeld (now (head .entry)) (now (mourned .entry)) (now (serials .entry)) (now (seconds .entry)) (now (rows .entry)) (now (bytes .entry)) .rows ⌝ }
 {
     let h = read_head(head);
     let kind = h.kind;
     let returned = h.set;
     let named = read_set(mourned);
-    let got = records::read_lone(bytes);
+    let got = groups::read_lone(h.count, serials, seconds, bytes);
     match got {
         Reading::Read(x) => {
             let reply = replies::judge(kind, h.count, serials, returned, rows, bytes, x);
@@ -285,7 +309,7 @@ pub extern "C" fn gm_offer(
 // Asks for a place: 12, 33 last, 34 not last, 35 open. Whatever the serials are.
 #[no_mangle]
 pub extern "C" fn gm_ask(head: &[u64; 4], mourned: &[u64; 2], rows: &[u8; 2048], place: usize) -> u8
-    ensures { λ r. ⌜ ((serials : List ℕ) → r ≡ askedCode (asked (recoveryIn (now (head .entry)) (now (mourned .entry)) serials (now (rows .entry))) place)) ⌝ }
+    ensures { λ r. ⌜ ((serials seconds : List ℕ) → r ≡ askedCode (asked (recoveryIn (now (head .entry)) (now (mourned .entry)) serials seconds (now (rows .entry))) place)) ⌝ }
 {
     let h = read_head(head);
     let kind = h.kind;
@@ -307,7 +331,7 @@ pub extern "C" fn gm_ask(head: &[u64; 4], mourned: &[u64; 2], rows: &[u8; 2048],
 // Whether no place is open: 1 or 0. Whatever the serials are.
 #[no_mangle]
 pub extern "C" fn gm_settled(head: &[u64; 4], mourned: &[u64; 2], rows: &[u8; 2048]) -> u8
-    ensures { λ r. ⌜ ((serials : List ℕ) → r ≡ yesCode (settledOf (recoveryIn (now (head .entry)) (now (mourned .entry)) serials (now (rows .entry))))) ⌝ }
+    ensures { λ r. ⌜ ((serials seconds : List ℕ) → r ≡ yesCode (settledOf (recoveryIn (now (head .entry)) (now (mourned .entry)) serials seconds (now (rows .entry))))) ⌝ }
 {
     let h = read_head(head);
     let kind = h.kind;
@@ -321,7 +345,7 @@ pub extern "C" fn gm_settled(head: &[u64; 4], mourned: &[u64; 2], rows: &[u8; 20
 // The unmourned places, as two words. Whatever the serials and the rows are.
 #[no_mangle]
 pub extern "C" fn gm_unmourned(head: &[u64; 4], mourned: &[u64; 2], out: &mut [u64; 2])
-    ensures { λ r. ⌜ ((serials rows : List ℕ) → now (out .exit) ≡ wordsOf (unmournedOf (recoveryIn (now (head .entry)) (now (mourned .entry)) serials rows))) ⌝ }
+    ensures { λ r. ⌜ ((serials seconds rows : List ℕ) → now (out .exit) ≡ wordsOf (unmournedOf (recoveryIn (now (head .entry)) (now (mourned .entry)) serials seconds rows))) ⌝ }
 {
     let h = read_head(head);
     let named = read_set(mourned);
@@ -332,7 +356,7 @@ pub extern "C" fn gm_unmourned(head: &[u64; 4], mourned: &[u64; 2], out: &mut [u
 // The unmourned places that are absent, as two words. Whatever the serials and the rows are.
 #[no_mangle]
 pub extern "C" fn gm_unmourned_absent(head: &[u64; 4], mourned: &[u64; 2], out: &mut [u64; 2])
-    ensures { λ r. ⌜ ((serials rows : List ℕ) → now (out .exit) ≡ wordsOf (unmournedAbsentOf (recoveryIn (now (head .entry)) (now (mourned .entry)) serials rows))) ⌝ }
+    ensures { λ r. ⌜ ((serials seconds rows : List ℕ) → now (out .exit) ≡ wordsOf (unmournedAbsentOf (recoveryIn (now (head .entry)) (now (mourned .entry)) serials seconds rows))) ⌝ }
 {
     let h = read_head(head);
     let returned = h.set;
@@ -345,7 +369,7 @@ pub extern "C" fn gm_unmourned_absent(head: &[u64; 4], mourned: &[u64; 2], out: 
 // How many are unmourned. Whatever the serials and the rows are.
 #[no_mangle]
 pub extern "C" fn gm_unmourned_count(head: &[u64; 4], mourned: &[u64; 2]) -> usize
-    ensures { λ r. ⌜ ((serials rows : List ℕ) → r ≡ unmournedCountOf (recoveryIn (now (head .entry)) (now (mourned .entry)) serials rows)) ⌝ }
+    ensures { λ r. ⌜ ((serials seconds rows : List ℕ) → r ≡ unmournedCountOf (recoveryIn (now (head .entry)) (now (mourned .entry)) serials seconds rows)) ⌝ }
 {
     let h = read_head(head);
     let named = read_set(mourned);
@@ -356,7 +380,7 @@ pub extern "C" fn gm_unmourned_count(head: &[u64; 4], mourned: &[u64; 2]) -> usi
 // Checks a lent history: 13, 15, 37 fits, 38 fits not. Whatever the mourned places and the serials are.
 #[no_mangle]
 pub extern "C" fn gm_check(head: &[u64; 4], rows: &[u8; 2048], history: &[u8]) -> u8
-    ensures { λ r. ⌜ ((mourned serials : List ℕ) → r ≡ checkedCode (checked (recoveryIn (now (head .entry)) mourned serials (now (rows .entry))) (now (history .entry)))) ⌝ }
+    ensures { λ r. ⌜ ((mourned serials seconds : List ℕ) → r ≡ checkedCode (checked (recoveryIn (now (head .entry)) mourned serials seconds (now (rows .entry))) (now (history .entry)))) ⌝ }
 {
     let h = read_head(head);
     let kind = h.kind;
@@ -385,9 +409,9 @@ pub extern "C" fn gm_show(
     first: &mut [u8],
     second: &mut [u8],
 ) -> u8
-    ensures { λ r. ⌜ ((serials : List ℕ) → r ≡ showingCode (shown (recoveryIn (now (head .entry)) (now (mourned .entry)) serials (now (rows .entry))) place (now (first .entry)) (now (second .entry)) .answer)) ⌝ }
-    ensures { λ r. ⌜ ((serials : List ℕ) → now (first .exit) ≡ shown (recoveryIn (now (head .entry)) (now (mourned .entry)) serials (now (rows .entry))) place (now (first .entry)) (now (second .entry)) .first) ⌝ }
-    ensures { λ r. ⌜ ((serials : List ℕ) → now (second .exit) ≡ shown (recoveryIn (now (head .entry)) (now (mourned .entry)) serials (now (rows .entry))) place (now (first .entry)) (now (second .entry)) .second) ⌝ }
+    ensures { λ r. ⌜ ((serials seconds : List ℕ) → r ≡ showingCode (shown (recoveryIn (now (head .entry)) (now (mourned .entry)) serials seconds (now (rows .entry))) place (now (first .entry)) (now (second .entry)) .answer)) ⌝ }
+    ensures { λ r. ⌜ ((serials seconds : List ℕ) → now (first .exit) ≡ shown (recoveryIn (now (head .entry)) (now (mourned .entry)) serials seconds (now (rows .entry))) place (now (first .entry)) (now (second .entry)) .first) ⌝ }
+    ensures { λ r. ⌜ ((serials seconds : List ℕ) → now (second .exit) ≡ shown (recoveryIn (now (head .entry)) (now (mourned .entry)) serials seconds (now (rows .entry))) place (now (first .entry)) (now (second .entry)) .second) ⌝ }
 {
     let h = read_head(head);
     let kind = h.kind;
@@ -407,23 +431,43 @@ pub extern "C" fn gm_show(
     showing_code(answer)
 }
 
-// The place of a serial among the first n.
-fn find_among(serials: &[u32], n: usize, serial: Serial) -> Found
-    requires { ⌜ n ≤ length (now serials) ⌝ }
-    ensures { λ r. ⌜ r ≡ found (length (take n (now (serials .entry)))) (placeOf (serial .0) (take n (now (serials .entry)))) ⌝ }
-{
-    rosters::find(&serials[..n], serial)
-}
-
-// The place of a serial, or 128. Whatever the mourned places and the rows are.
+// The place of a serial, and which of the place's two it is: 39 the first, 40 the second; 41 and place 128 where it is not found. Whatever the
+// mourned places and the rows are.
 #[no_mangle]
-pub extern "C" fn gm_find(head: &[u64; 4], serials: &[u32; 128], serial: u32) -> usize
-    ensures { λ r. ⌜ ((mourned rows : List ℕ) → r ≡ foundCode (foundIn (recoveryIn (now (head .entry)) mourned (now (serials .entry)) rows) serial)) ⌝ }
+pub extern "C" fn gm_find<'a>(
+    head: &[u64; 4],
+    serials: &'a [u32; 128],
+    seconds: &'a [u32; 128],
+    serial: u32,
+) -> FoundNow
+    ensures { λ r. ⌜ ((mourned rows : List ℕ) → r ≡ foundOf (foundIn (recoveryIn (now (head .entry)) mourned (now (serials .entry)) (now (seconds .entry)) rows) serial)) ⌝ }
 {
     let h = read_head(head);
-    let n = answers::size(h.count);
-    let place = find_among(serials, n, Serial(serial));
-    found_code(place)
+    let found = groups::find(h.count, serials, seconds, Serial(serial));
+    found_now(found)
+}
+
+// Gives a place a second serial: 12, 4, 16, or 0. Whatever the mourned places and the rows are.
+#[no_mangle]
+pub extern "C" fn gm_give(
+    head: &[u64; 4],
+    serials: &[u32; 128],
+    seconds: &mut [u32; 128],
+    place: usize,
+    serial: u32,
+) -> u8
+    ensures { λ r. ⌜ ((mourned rows : List ℕ) → r ≡ givingCode (given (recoveryIn (now (head .entry)) mourned (now (serials .entry)) (now (seconds .entry)) rows) place serial .answer)) ⌝ }
+    ensures { λ r. ⌜ ((mourned rows : List ℕ) → now (seconds .exit) ≡ given (recoveryIn (now (head .entry)) mourned (now (serials .entry)) (now (seconds .entry)) rows) place serial .recovery .seconds) ⌝ }
+{
+    let h = read_head(head);
+    let answer = groups::may_give(h.count, serials, seconds, Place(place), Serial(serial));
+    match answer {
+        Giving::Given => {
+            seconds[place] = serial;
+            0
+        }
+        Giving::Refused(fault) => fault,
+    }
 }
 
 // Writes the record of a returned place: 12, 14, 13, or where it ends.
@@ -436,8 +480,8 @@ fn write_back(
     at: usize,
 ) -> Writing
     requires { ⌜ length (now serials) ≡ 128 ⌝ }
-    ensures { λ r. ⌜ ((mourned : List ℕ) → r ≡ writtenOf (recoveryIn (now (head .entry)) mourned (now (serials .entry)) (now (rows .entry))) (place .0) (now (out .entry)) at .answer) ⌝ }
-    ensures { λ r. ⌜ ((mourned : List ℕ) → now (out .exit) ≡ writtenOf (recoveryIn (now (head .entry)) mourned (now (serials .entry)) (now (rows .entry))) (place .0) (now (out .entry)) at .buffer) ⌝ }
+    ensures { λ r. ⌜ ((mourned seconds : List ℕ) → r ≡ writtenOf (recoveryIn (now (head .entry)) mourned (now (serials .entry)) seconds (now (rows .entry))) (place .0) (now (out .entry)) at .answer) ⌝ }
+    ensures { λ r. ⌜ ((mourned seconds : List ℕ) → now (out .exit) ≡ writtenOf (recoveryIn (now (head .entry)) mourned (now (serials .entry)) seconds (now (rows .entry))) (place .0) (now (out .entry)) at .buffer) ⌝ }
 {
     let h = read_head(head);
     let kind = h.kind;
@@ -463,8 +507,8 @@ pub extern "C" fn gm_write(
     out: &mut [u8],
     at: usize,
 ) -> End
-    ensures { λ r. ⌜ ((mourned : List ℕ) → r ≡ endOf (writtenOf (recoveryIn (now (head .entry)) mourned (now (serials .entry)) (now (rows .entry))) place (now (out .entry)) at .answer)) ⌝ }
-    ensures { λ r. ⌜ ((mourned : List ℕ) → now (out .exit) ≡ writtenOf (recoveryIn (now (head .entry)) mourned (now (serials .entry)) (now (rows .entry))) place (now (out .entry)) at .buffer) ⌝ }
+    ensures { λ r. ⌜ ((mourned seconds : List ℕ) → r ≡ endOf (writtenOf (recoveryIn (now (head .entry)) mourned (now (serials .entry)) seconds (now (rows .entry))) place (now (out .entry)) at .answer)) ⌝ }
+    ensures { λ r. ⌜ ((mourned seconds : List ℕ) → now (out .exit) ≡ writtenOf (recoveryIn (now (head .entry)) mourned (now (serials .entry)) seconds (now (rows .entry))) place (now (out .entry)) at .buffer) ⌝ }
 {
     let answer = write_back(head, serials, rows, Place(place), out, at);
     end_of(answer)
@@ -499,23 +543,35 @@ fn put_reading(out: &mut [u64; 7], got: Reading) -> u8
     }
 }
 
-// Reads the record that starts at a position: 1 to 7, or 0 and its seven words.
+// Reads the record that starts at a position: 1 to 7, or 0 and its seven words. Its own and mourned serials may be second ones of a group
+// with these serials.
 #[no_mangle]
-pub extern "C" fn gm_read(bytes: &[u8], at: usize, out: &mut [u64; 7]) -> u8
-    ensures { λ r. ⌜ r ≡ readCode (reading (now (bytes .entry)) at) ⌝ }
-    ensures { λ r. ⌜ now (out .exit) ≡ readWords (reading (now (bytes .entry)) at) (now (out .entry)) ⌝ }
+pub extern "C" fn gm_read(
+    bytes: &[u8],
+    at: usize,
+    firsts: &[u32],
+    seconds: &[u32],
+    out: &mut [u64; 7],
+) -> u8
+    ensures { λ r. ⌜ r ≡ readCode (reading (countsAs (now (firsts .entry)) (now (seconds .entry))) (now (bytes .entry)) at) ⌝ }
+    ensures { λ r. ⌜ now (out .exit) ≡ readWords (reading (countsAs (now (firsts .entry)) (now (seconds .entry))) (now (bytes .entry)) at) (now (out .entry)) ⌝ }
 {
-    let got = records::read(bytes, at);
+    let got = records::read(bytes, at, firsts, seconds);
     put_reading(out, got)
 }
 
-// Reads a lone record: 1 to 8, or 0 and its seven words.
+// Reads a lone record in the same way: 1 to 8, or 0 and its seven words.
 #[no_mangle]
-pub extern "C" fn gm_read_lone(bytes: &[u8], out: &mut [u64; 7]) -> u8
-    ensures { λ r. ⌜ r ≡ readCode (readingLone (now (bytes .entry))) ⌝ }
-    ensures { λ r. ⌜ now (out .exit) ≡ readWords (readingLone (now (bytes .entry))) (now (out .entry)) ⌝ }
+pub extern "C" fn gm_read_lone(
+    bytes: &[u8],
+    firsts: &[u32],
+    seconds: &[u32],
+    out: &mut [u64; 7],
+) -> u8
+    ensures { λ r. ⌜ r ≡ readCode (readingLone (countsAs (now (firsts .entry)) (now (seconds .entry))) (now (bytes .entry))) ⌝ }
+    ensures { λ r. ⌜ now (out .exit) ≡ readWords (readingLone (countsAs (now (firsts .entry)) (now (seconds .entry))) (now (bytes .entry))) (now (out .entry)) ⌝ }
 {
-    let got = records::read_lone(bytes);
+    let got = records::read_lone(bytes, firsts, seconds);
     put_reading(out, got)
 }
 

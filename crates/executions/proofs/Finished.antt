@@ -17,6 +17,7 @@ use Rattle.rosters.specs.Rosters.{IsRoster, listed}
 use Rattle.rosters.specs.declared.Listed.{Listed}
 use Rattle.rosters.specs.declared.Listed.the-variants as L
 use Rattle.rosters.proofs.Laws.{listed-sound}
+use Rattle.rosters.specs.Seconds.{countsAs}
 use Rattle.records.specs.declared.Writing.the-variants as W
 use Rattle.records.specs.Layout.{refused, knownKind, kindOf, layout}
 use Rattle.records.specs.Records.{putAt, writtenAt}
@@ -28,7 +29,7 @@ use Rattle.recovery.specs.declared.Opening.the-variants as R
 use Rattle.recovery.specs.declared.Opened.{Opened}
 use Rattle.replies.specs.declared.Reply.the-variants as O
 use Rattle.recovery.specs.declared.Asked.{Asked}
-use Rattle.recovery.specs.Contracts.{acceptedOf, unopened, openedAs, opened}
+use Rattle.recovery.specs.Contracts.{secondsOf, acceptedOf, unopened, openedAs, opened}
 use Rattle.recovery.specs.Demand as D
 use Rattle.recovery.specs.Demand.{Free, Opens, ask, says, OfGroup}
 use Rattle.recovery.specs.Run.{openingSays, askedSays, outcome, left, reached}
@@ -118,10 +119,10 @@ module _ {k : Kind} {s : List ℕ} {d : Day} (sound : IsRoster s) (below : (p : 
     mourned = rw (g .sound .is-roster) (λ q e. is-history .inside p q e .1);
   }
 
-  -- and is read back from its bytes as one of the group
-  record-group : (p : ℕ) → p < length s → OfGroup k s (recordBytes d p) (recordOf d p)
+  -- and is read back from its bytes as one of the group, whatever second serials it has
+  record-group : (seconds : List ℕ) (p : ℕ) → p < length s → OfGroup k s seconds (recordBytes d p) (recordOf d p)
   unfolding recordBytes recordOf
-  record-group p l = record { rest = []; reads = layout-lone (recordOf d p) (record-stored p l); same-kind = g .sound .is-kind; same-roster = g .sound .is-roster }
+  record-group seconds p l = record { rest = []; reads = layout-lone (countsAs s seconds) (recordOf d p) (record-stored p l); same-kind = g .sound .is-kind; same-roster = g .sound .is-roster }
 
   -- somebody heard one that is not last
   heard-of : (i : ℕ) → ¬ (Last rows i) → (x : ℕ) × (rows x i ≡ true)
@@ -139,20 +140,20 @@ module _ {k : Kind} {s : List ℕ} {d : Day} (sound : IsRoster s) (below : (p : 
   }
 
   -- each record agrees with the day
-  records-agree : (ps : List ℕ) → ((p : ℕ) → List·Memᴰ p ps → p < length s) → (x : List ℕ) → List·Memᴰ x (recordsOf d ps) → Agrees k s rows x
+  records-agree : (seconds : List ℕ) (ps : List ℕ) → ((p : ℕ) → List·Memᴰ p ps → p < length s) → (x : List ℕ) → List·Memᴰ x (recordsOf d ps) → Agrees k s seconds rows x
   unfolding recordsOf recordOf
-  records-agree [] on x m = absurd (List·Memᴰ·not-nil m)
-  records-agree (p ∷ ps) on x m = go (records-agree ps (λ q n. on q (List·Memᴰ·tail n)) x) (List·Memᴰ·cases-cons m)
+  records-agree seconds [] on x m = absurd (List·Memᴰ·not-nil m)
+  records-agree seconds (p ∷ ps) on x m = go (records-agree seconds ps (λ q n. on q (List·Memᴰ·tail n)) x) (List·Memᴰ·cases-cons m)
     where
-      go : (List·Memᴰ x (map (recordBytes d) ps) → Agrees k s rows x) → (x ≡ recordBytes d p) ⊎ List·Memᴰ x (map (recordBytes d) ps) → Agrees k s rows x
-      go rest (inl e) = subst (Agrees k s rows) (sym e) (record { stored = recordOf d p; of-group = record-group p (on p (List·Memᴰ·head refl)); row = refl })
+      go : (List·Memᴰ x (map (recordBytes d) ps) → Agrees k s seconds rows x) → (x ≡ recordBytes d p) ⊎ List·Memᴰ x (map (recordBytes d) ps) → Agrees k s seconds rows x
+      go rest (inl e) = subst (Agrees k s seconds rows) (sym e) (record { stored = recordOf d p; of-group = record-group seconds p (on p (List·Memᴰ·head refl)); row = refl })
       go rest (inr n) = rest n
 
   -- the records of any places, in any order
   all-accepted : (ps : List ℕ) → ((p : ℕ) → List·Memᴰ p ps → p < length s) → (r : Recovery) → Good k s r → Fits k (length s) (acceptedOf r) rows
       → Accepts r (recordsOf d ps) × True d (left r (offers (recordsOf d ps)))
   all-accepted ps on r good f =
-      let w = agreeing-accepted good f (recordsOf d ps) (records-agree ps on) in
+      let w = agreeing-accepted good f (recordsOf d ps) (records-agree (secondsOf r) ps on) in
       (w .0, answers-true (good-after good (offers (recordsOf d ps))) (w .1))
 
 -- ---- the theorem

@@ -1,5 +1,5 @@
-// Two recoveries compared as values, and the records of a pile in every order: where some history fits them all, each is taken in each
-// order, what is left is equal, and stays so when they are offered once more.
+// Two recoveries compared as values; what a giving leaves; and the records of a pile in every order: where some history fits them all,
+// each is taken in each order, what is left is equal, and stays so when they are offered once more.
 use crate::cases;
 use crate::cases::Case;
 use crate::matrices;
@@ -65,7 +65,7 @@ fn same_heads(a: Recovery, b: Recovery) -> bool {
 }
 
 // Every field, the serials past the roster and the rows of absent places too.
-fn same(a: Recovery, b: Recovery) -> bool {
+pub fn same(a: Recovery, b: Recovery) -> bool {
     if !same_heads(a, b) {
         return false;
     }
@@ -74,9 +74,31 @@ fn same(a: Recovery, b: Recovery) -> bool {
     if !same_serials(&one, &two) {
         return false;
     }
+    let one = a.seconds;
+    let two = b.seconds;
+    if !same_serials(&one, &two) {
+        return false;
+    }
     let one = a.rows;
     let two = b.rows;
     same_rows(&one, &two)
+}
+
+// The recovery with a second serial for a place, and all else as it was.
+fn with_second(r: Recovery, place: usize, x: u32) -> Recovery {
+    let mut next = r;
+    if place < 128 {
+        next.seconds[place] = x;
+    }
+    next
+}
+
+// 1 where a giving with this answer left what it should: the second serial and no more, and nothing new where it was refused.
+pub fn left(old: Recovery, place: usize, x: u32, answer: u64, new: Recovery) -> u64 {
+    if answer == outcomes::GIVEN {
+        return outcomes::truth(same(with_second(old, place, x), new));
+    }
+    outcomes::truth(same(old, new))
 }
 
 fn laid(pile: Pile, c: Case, place: usize) -> Pile {

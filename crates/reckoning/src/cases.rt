@@ -99,7 +99,7 @@ fn say_record(c: Case, place: usize) {
     say::number((d - 1) as u64);
 }
 
-fn say_case(c: Case) {
+pub fn say_case(c: Case) {
     say::text(b"kind ");
     say::number(c.kind as u64);
     say::text(b" of ");

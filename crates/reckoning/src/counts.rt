@@ -51,7 +51,7 @@ fn opens(t: Tally) -> Tally {
 }
 
 // Offers a record of some own serial with these two lists and these counts.
-fn offer(
+pub fn offer(
     g: Run,
     own: u32,
     count: u8,

@@ -7,14 +7,16 @@ use crate::cases::Case;
 use crate::matrices;
 use crate::parts;
 use crate::piles;
+use crate::seconds;
 use crate::tallies;
 use crate::tallies::Tally;
 
-// What is tried of a pile: its records in every order and the answers then, or what is left then, or all that is shown and written in
-// one order, with every matrix checked or a sample of them.
+// What is tried of a pile: its records in every order and the answers then, or what is left then, or records in second serials after
+// it, or all that is shown and written in one order, with every matrix checked or a sample of them.
 enum Trial {
     Orders,
     Alike,
+    Seconds,
     Histories,
     Sample,
 }
@@ -68,6 +70,7 @@ fn try_pile(list: &[u32], kind: u8, n: usize, pile: u32, trial: Trial, t: Tally)
     match trial {
         Trial::Orders => orders(list, kind, n, pile, false, t),
         Trial::Alike => orders(list, kind, n, pile, true, t),
+        Trial::Seconds => seconds::played(list, c, t),
         Trial::Histories => histories(list, c, t, 1, 1),
         Trial::Sample => histories(list, c, t, 1021, 5),
     }
@@ -120,6 +123,10 @@ pub fn of_small_rosters() {
     tallies::report(
         b"every pile of 1 to 3 places, shown, written and checked",
         small_rosters(Trial::Histories),
+    );
+    tallies::report(
+        b"every pile of 1 to 3 places, and after it every record in every mix of first and second serials",
+        small_rosters(Trial::Seconds),
     );
 }
 

@@ -1,13 +1,15 @@
 // The public functions of a recovery beside a plain second reckoning, which lists all histories of a small roster and counts, place by
 // place, in how many of the fitting ones the place is last. One line for each family of cases; before it one for the first case that
 // differs, with all that it takes to repeat it: the kind, the roster's length, the records in order as PLACE:SET, the call, and both
-// outcomes. A set is the sum of its places' bits.
+// outcomes. A set is the sum of its places' bits. Board swaps have a second reckoning of their own, of two places and few serials.
 mod alike;
+mod boards;
 mod buffers;
 mod caller;
 mod cases;
 mod counts;
 mod families;
+mod givings;
 mod group;
 mod laid;
 mod matrices;
@@ -16,7 +18,9 @@ mod parts;
 mod piles;
 mod runs;
 mod say;
+mod seconds;
 mod stored;
+mod swaps;
 mod tallies;
 
 fn main() {
@@ -24,5 +28,7 @@ fn main() {
     let t = group::cases(tallies::none());
     tallies::report(b"what a group and a caller meet", caller::cases(t));
     tallies::report(b"counts and serials", counts::cases(tallies::none()));
+    tallies::report(b"board swaps, case by case", boards::cases(tallies::none()));
+    givings::all();
     families::of_four_places();
 }

@@ -1,12 +1,13 @@
 // Every outcome as one number: a refusal is its own number, the others stand above all sets, counts and positions that occur.
 use crate::say;
-use places::Found;
+use groups::Giving;
 use places::PlaceSet;
 use records::Writing;
 use recovery::Asked;
 use recovery::Checked;
 use recovery::Opening;
 use replies::Reply;
+use rosters::Finding;
 use shows::Showing;
 
 pub const OPENED: u64 = 1000001;
@@ -33,6 +34,11 @@ pub const NOTHING: u64 = 1000011;
 
 pub const HIGH: u64 = 1000012;
 
+pub const GIVEN: u64 = 1000013;
+
+// A place found by its second serial is this and the place.
+pub const SECOND: u64 = 1001000;
+
 // An outcome in words, or as the number that it is.
 pub fn write(x: u64) {
     match x {
@@ -48,6 +54,11 @@ pub fn write(x: u64) {
         1000010 => say::text(b"fits not"),
         1000011 => say::text(b"nothing"),
         1000012 => say::text(b"places from 64 on"),
+        1000013 => say::text(b"given"),
+        1001000..=1001127 => {
+            say::text(b"second of place ");
+            say::number(std::num::wrapping_sub_u64(x, SECOND));
+        }
         _ => say::number(x),
     }
 }
@@ -100,11 +111,19 @@ pub fn writing(got: Writing) -> u64 {
     }
 }
 
-// The place of a serial.
-pub fn found(got: Found) -> u64 {
+// The place of a serial, by its first serial or by its second one.
+pub fn found(got: Finding) -> u64 {
     match got {
-        Found::At(place) => place.0 as u64,
-        Found::Nothing => NOTHING,
+        Finding::First(place) => place.0 as u64,
+        Finding::Second(place) => std::num::wrapping_add_u64(SECOND, place.0 as u64),
+        Finding::Nothing => NOTHING,
+    }
+}
+
+pub fn giving(got: Giving) -> u64 {
+    match got {
+        Giving::Given => GIVEN,
+        Giving::Refused(fault) => fault as u64,
     }
 }
 

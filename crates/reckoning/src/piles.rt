@@ -55,7 +55,7 @@ pub fn offer(c: Case, r: Recovery, place: usize, mourned: u32) -> Offered {
 }
 
 // What the pile says of a new record: taken where some history fits with it, else 11.
-fn offered(list: &[u32], with: Pile) -> u64 {
+pub fn offered(list: &[u32], with: Pile) -> u64 {
     if matrices::some_fits(list, with) {
         return outcomes::TAKEN;
     }

@@ -1,4 +1,6 @@
-// A recovery led through a numbered case: each outcome is held to the one that document 01 gives.
+// A recovery led through a numbered case: each outcome is held to the one that documents 01 and 02 give.
+use crate::alike;
+use crate::laid;
 use crate::outcomes;
 use crate::parts;
 use crate::say;
@@ -7,6 +9,7 @@ use crate::tallies;
 use crate::tallies::Tally;
 use places::Place;
 use recovery::Recovery;
+use rosters::Serial;
 
 pub struct Run {
     pub case: u64,
@@ -128,6 +131,74 @@ pub fn offer(g: Run, place: usize, mourned: u32, expected: u64) -> Run {
         mourned,
         expected,
     )
+}
+
+// The same, where its own serial is the first or the second one, and the mourned ones are second ones for a set of places.
+pub fn offer_mixed(
+    g: Run,
+    place: usize,
+    second: bool,
+    mourned: u32,
+    swapped: u32,
+    expected: u64,
+) -> Run {
+    let mut bytes = [0u8; 1100];
+    let length = stored::mixed(g.kind, g.n, place, second, mourned, swapped, &mut bytes);
+    send(
+        g,
+        parts::of_record(&bytes, length),
+        place as u64,
+        mourned as u64,
+        expected,
+    )
+}
+
+// Gives a place a second serial: the answer, and what it leaves.
+pub fn give(g: Run, place: usize, x: u32, expected: u64) -> Run {
+    let old = g.recovery;
+    let got = recovery::give(old, Place(place), Serial(x));
+    let answer = got.answer;
+    let recovery = got.recovery;
+    let p = place as u64;
+    let t = held(g, b"give", p, x as u64, expected, outcomes::giving(answer));
+    let g = after(g, t);
+    let equal = alike::left(old, place, x, expected, recovery);
+    let tally = held(g, b"left by give", p, x as u64, 1, equal);
+    Run {
+        case: g.case,
+        kind: g.kind,
+        n: g.n,
+        recovery,
+        tally,
+    }
+}
+
+// Writes the record of a place that mourns a set: it is in first serials.
+pub fn write(g: Run, place: usize, mourned: u32) -> Run {
+    let n = g.n;
+    let serials = stored::serials();
+    let roster = parts::of_six(&serials, n);
+    let mut made = [0u8; 1100];
+    let mut out = [0xaau8; 80];
+    let length = stored::record(g.kind, place, roster, mourned, &mut made);
+    let recovery = g.recovery;
+    let got = recovery::write(recovery, Place(place), &mut out, 20);
+    let end = 20 + length as u64;
+    let p = place as u64;
+    let m = mourned as u64;
+    let t = held(g, b"write", p, m, end, outcomes::writing(got));
+    let g = after(g, t);
+    let same = laid::has_only(&out, 20, parts::of_record(&made, length));
+    let t = held(g, b"written", p, m, 1, outcomes::truth(same));
+    after(g, t)
+}
+
+// Finds a serial.
+pub fn find(g: Run, x: u32, expected: u64) -> Run {
+    let recovery = g.recovery;
+    let got = recovery::find(recovery, Serial(x));
+    let t = held(g, b"find", x as u64, 0, expected, outcomes::found(got));
+    after(g, t)
 }
 
 // Asks for a place.

@@ -8,9 +8,39 @@ pub fn serials() -> [u32; 6] {
     [65536, 131072, 196608, 262144, 327680, 393216]
 }
 
-// The list x, 2 x, 3 x and so on.
-fn fill(list: &mut [u32; 130], x: u32) {
-    let mut y = 0u32;
+// The first serial of a small roster's place, or the second one where the place stands in a set.
+fn name(swapped: u32, i: usize, first: u32) -> u32 {
+    if one_if_in(swapped, i) == 0 {
+        return first;
+    }
+    std::num::wrapping_add_u32(first, 393216)
+}
+
+// The serials of the small rosters, second ones for a set of places.
+pub fn names(swapped: u32) -> [u32; 6] {
+    [
+        name(swapped, 0, 65536),
+        name(swapped, 1, 131072),
+        name(swapped, 2, 196608),
+        name(swapped, 3, 262144),
+        name(swapped, 4, 327680),
+        name(swapped, 5, 393216),
+    ]
+}
+
+// The first or the second serial of a small roster's place.
+pub fn name_of(place: usize, second: bool) -> u32 {
+    let firsts = names(0);
+    let seconds = names(63);
+    if second {
+        return serial(&seconds, place);
+    }
+    serial(&firsts, place)
+}
+
+// The list x, 2 x, 3 x and so on, each added to a number.
+fn fill(list: &mut [u32; 130], x: u32, from: u32) {
+    let mut y = from;
     let mut i = 0;
     while i < 130 {
         y = std::num::wrapping_add_u32(y, x);
@@ -22,7 +52,14 @@ fn fill(list: &mut [u32; 130], x: u32) {
 // The serials of the large rosters.
 pub fn multiples() -> [u32; 130] {
     let mut list = [0u32; 130];
-    fill(&mut list, 65536);
+    fill(&mut list, 65536, 0);
+    list
+}
+
+// Their second serials: the multiples of 65536 from 129 on.
+pub fn second_multiples() -> [u32; 130] {
+    let mut list = [0u32; 130];
+    fill(&mut list, 65536, 8388608);
     list
 }
 
@@ -37,7 +74,7 @@ pub fn one_bit(list: &mut [u32; 130], x: u32) {
     }
 }
 
-fn byte(n: usize) -> u8 {
+pub fn byte(n: usize) -> u8 {
     if n < 256 {
         return n as u8;
     }
@@ -133,19 +170,50 @@ fn select(roster: &[u32], set: u32, out: &mut [u32; 6]) -> usize {
     n
 }
 
-// The record of a place that mourns a set of places below 6.
-pub fn record(kind: u8, place: usize, roster: &[u32], set: u32, out: &mut [u8; 1100]) -> usize
+// The record of an own serial that mourns a set of places below 6, which are called by these names.
+fn named(kind: u8, own: u32, roster: &[u32], names: &[u32], set: u32, out: &mut [u8; 1100]) -> usize
     ensures { λ r. ⌜ r ≤ 1100 ⌝ }
 {
     let mut mourned = [0u32; 6];
-    let n = select(roster, set, &mut mourned);
+    let n = select(names, set, &mut mourned);
     lay(
         kind,
-        serial(roster, place),
+        own,
         byte(roster.len()),
         roster,
         byte(n),
         parts::of_six(&mourned, n),
         out,
     )
+}
+
+// The record of a place of a small roster: its own serial is the first or the second one, the mourned ones are second ones for a set.
+pub fn mixed(
+    kind: u8,
+    n: usize,
+    place: usize,
+    second: bool,
+    mourned: u32,
+    swapped: u32,
+    out: &mut [u8; 1100],
+) -> usize
+    ensures { λ r. ⌜ r ≤ 1100 ⌝ }
+{
+    let roster = serials();
+    let called = names(swapped);
+    named(
+        kind,
+        name_of(place, second),
+        parts::of_six(&roster, n),
+        parts::of_six(&called, n),
+        mourned,
+        out,
+    )
+}
+
+// The record of a place that mourns a set of places below 6.
+pub fn record(kind: u8, place: usize, roster: &[u32], set: u32, out: &mut [u8; 1100]) -> usize
+    ensures { λ r. ⌜ r ≤ 1100 ⌝ }
+{
+    named(kind, serial(roster, place), roster, roster, set, out)
 }

@@ -2,11 +2,11 @@
 use mathlib.Core.Path.{_≡_, refl, sym, ap, ap₂, subst, fun-ext, _∙_}
 use mathlib.Core.Bool.{Bool, true, false, not, cond, _&&_, _||_, or-true, or-false, and-true, and-false}
 use mathlib.Core.Logic.{_⊎_, inl, inr}
-use mathlib.Core.List.{List, [], _∷_, _++_, append-assoc, append-nil}
+use mathlib.Core.List.{List, [], _∷_, _++_, map, append-assoc, append-nil}
 use Prim.Native.Nat.{ℕ, zero, suc, _+_, _-_, _*_, _/_, _%_, _^_, _≤_, _<_}
 use native.Mathlib.Omega.{arith}
 use native.Mathlib.Decide.{ℕ-discrete}
-use lib.ListN.{length, getD, take, drop, length-append, length-drop, drop-of-length-le}
+use lib.ListN.{length, getD, take, drop, length-append, length-drop, length-map, drop-of-length-le}
 use lib.Seq.{drop-cons, drop-drop, drop-at, getD-drop, getD-append-seam, length-take-le}
 use lib.Dec.{eqb, leb, ltb}
 use borrow.Author.Tests.{leb-true, le-leb, lt-ltb, eqb-true, eqb-false, eq-eqb, ne-eqb, ltb-true, le-ltb}
@@ -15,7 +15,9 @@ use Rattle.places.proofs.Booleans.{clash, both-ways, and-intro, or-cases, or-ri
 use Rattle.histories.specs.declared.Kind.{Kind}
 use Rattle.histories.specs.declared.Kind.the-variants.{Full, Short}
 use Rattle.rosters.specs.Rosters.{placeOf, holds, IsRoster}
-use Rattle.records.specs.Layout.{Parsed, got, refused, then, check, byte, wordAt, serial, knownKind, kindOf, kindSection, rosterSerials, rosterSection, Head, headSection, mournedSerials, mournedSection, Stored, stored, kindByte, serialBytes, serialsBytes, chosen, layout}
+use Rattle.rosters.specs.Seconds.{standsFor}
+use Rattle.rosters.proofs.Seconds.{stands-itself}
+use Rattle.records.specs.Layout.{Parsed, got, refused, then, check, byte, wordAt, serial, knownKind, kindOf, kindSection, rosterSerials, rosterSection, isOn, placeOn, Head, headSection, mournedSerials, mournedSection, Stored, stored, kindByte, serialBytes, serialsBytes, chosen, layout}
 use Rattle.records.specs.Records.{serials, putAt}
 use Rattle.records.proofs.Serials.{Apart, apart-nil, apart-more, apart-seam, place-at, place-own, holds-below, below-holds}
 
@@ -264,13 +266,21 @@ from-skip M (suc d) o r l h =
 
 -- ---- the mourned
 
-mourned-step : (m : ℕ) (r : List ℕ) (from : ℕ) (A : Places) (x o : ℕ) (t : List ℕ) → ¬ (x ≡ 0) → x < 2 ^ 32 → placeOf x r ≡ o → o < length r → from ≤ o
-    → mournedSerials (suc m) r from A (serialBytes x ++ t) ≡ mournedSerials m r (suc o) (with o A) t
+-- a serial of the roster stands for itself, whatever others count as
+pub own-place : (alias : ℕ → ℕ) (r : List ℕ) (x o : ℕ) → placeOf x r ≡ o → o < length r → (isOn alias r x ≡ true) × (placeOn alias r x ≡ o)
+own-place alias r x o p on =
+    let h : holds x r ≡ true = below-holds x r (omega arith) in
+    let e : standsFor alias r x ≡ x = stands-itself alias r x h in
+    (ap (λ (y : ℕ). holds y r) e ∙ h, ap (λ (y : ℕ). placeOf y r) e ∙ p)
+
+mourned-step : (alias : ℕ → ℕ) (m : ℕ) (r : List ℕ) (from : ℕ) (A : Places) (x o : ℕ) (t : List ℕ) → ¬ (x ≡ 0) → x < 2 ^ 32 → placeOf x r ≡ o → o < length r → from ≤ o
+    → mournedSerials alias (suc m) r from A (serialBytes x ++ t) ≡ mournedSerials alias m r (suc o) (with o A) t
 unfolding mournedSerials
-mourned-step m r from A x o t z h p on l =
-    let g : from ≤ placeOf x r = omega arith in
-    then-got _ x t (serial-read x t z h) ∙ check-yes _ 6 _ (below-holds x r (omega arith)) ∙ check-yes _ 7 _ (le-leb from (placeOf x r) g)
-    ∙ ap (λ (k : ℕ). mournedSerials m r (suc k) (with k A) t) p
+mourned-step alias m r from A x o t z h p on l =
+    let w = own-place alias r x o p on in
+    let g : from ≤ placeOn alias r x = omega (arith, w .1) in
+    then-got _ x t (serial-read x t z h) ∙ check-yes _ 6 _ (w .0) ∙ check-yes _ 7 _ (le-leb from (placeOn alias r x) g)
+    ∙ ap (λ (k : ℕ). mournedSerials alias m r (suc k) (with k A) t) (w .1)
 
 -- M as far as a place
 abbrev upTo : ℕ → Places → Places
@@ -306,13 +316,13 @@ up-all M o h = fun-ext (λ k. go k (M k) refl)
     go k true e = ap (λ (b : Bool). M k && b) (lt-ltb k o (h k e)) ∙ and-true (M k)
     go k false e = ap (λ (b : Bool). b && ltb k o) e ∙ sym e
 
-module _ (r : List ℕ) (a : Apart r) (few : (p : ℕ) → p < length r → getD r p 0 < 2 ^ 32) (M : Places) (on : (k : ℕ) → M k ≡ true → k < length r) (t : List ℕ) where
+module _ (alias : ℕ → ℕ) (r : List ℕ) (a : Apart r) (few : (p : ℕ) → p < length r → getD r p 0 < 2 ^ 32) (M : Places) (on : (k : ℕ) → M k ≡ true → k < length r) (t : List ℕ) where
   -- n places are still to come, the places before o are read
   mourned-rest : (n o from : ℕ) → o + n ≡ length r → from ≤ o
-      → mournedSerials (length (chosenFrom M o r)) r from (upTo o M) (serialsBytes (chosenFrom M o r) ++ t) ≡ got M t
+      → mournedSerials alias (length (chosenFrom M o r)) r from (upTo o M) (serialsBytes (chosenFrom M o r) ++ t) ≡ got M t
   unfolding mournedSerials serialsBytes
   mourned-rest zero o from e l =
-      ap (λ (c : List ℕ). mournedSerials (length c) r from (upTo o M) (serialsBytes c ++ t)) (from-end M o r (omega arith))
+      ap (λ (c : List ℕ). mournedSerials alias (length c) r from (upTo o M) (serialsBytes c ++ t)) (from-end M o r (omega arith))
       ∙ ap (λ (S : Places). got S t) (up-all M o (λ k h. omega (arith, on k h)))
   mourned-rest (suc n) o from e l = go (M o) refl (mourned-rest n (suc o))
     where
@@ -320,25 +330,25 @@ module _ (r : List ℕ) (a : Apart r) (few : (p : ℕ) → p < length r → getD
       c = chosenFrom M (suc o) r
 
       go : (b : Bool) → M o ≡ b
-          → ((from : ℕ) → suc o + n ≡ length r → from ≤ suc o → mournedSerials (length c) r from (upTo (suc o) M) (serialsBytes c ++ t) ≡ got M t)
-          → mournedSerials (length (chosenFrom M o r)) r from (upTo o M) (serialsBytes (chosenFrom M o r) ++ t) ≡ got M t
+          → ((from : ℕ) → suc o + n ≡ length r → from ≤ suc o → mournedSerials alias (length c) r from (upTo (suc o) M) (serialsBytes c ++ t) ≡ got M t)
+          → mournedSerials alias (length (chosenFrom M o r)) r from (upTo o M) (serialsBytes (chosenFrom M o r) ++ t) ≡ got M t
       go true h next =
-          ap (λ (l : List ℕ). mournedSerials (length l) r from (upTo o M) (serialsBytes l ++ t)) (from-in M o r (omega arith) h)
-          ∙ ap (mournedSerials (suc (length c)) r from (upTo o M)) (append-assoc (serialBytes (getD r o 0)) (serialsBytes c) t)
-          ∙ mourned-step (length c) r from (upTo o M) (getD r o 0) o (serialsBytes c ++ t) (a .no-zero o (omega arith)) (few o (omega arith)) (place-own r (a .no-repeat) o (omega arith)) (omega arith) l
-          ∙ ap (λ (S : Places). mournedSerials (length c) r (suc o) S (serialsBytes c ++ t)) (up-in M o h)
+          ap (λ (l : List ℕ). mournedSerials alias (length l) r from (upTo o M) (serialsBytes l ++ t)) (from-in M o r (omega arith) h)
+          ∙ ap (mournedSerials alias (suc (length c)) r from (upTo o M)) (append-assoc (serialBytes (getD r o 0)) (serialsBytes c) t)
+          ∙ mourned-step alias (length c) r from (upTo o M) (getD r o 0) o (serialsBytes c ++ t) (a .no-zero o (omega arith)) (few o (omega arith)) (place-own r (a .no-repeat) o (omega arith)) (omega arith) l
+          ∙ ap (λ (S : Places). mournedSerials alias (length c) r (suc o) S (serialsBytes c ++ t)) (up-in M o h)
           ∙ next (suc o) (omega arith) (omega arith)
       go false h next =
-          ap (λ (l : List ℕ). mournedSerials (length l) r from (upTo o M) (serialsBytes l ++ t)) (from-out M o r (omega arith) h)
-          ∙ ap (λ (S : Places). mournedSerials (length c) r from S (serialsBytes c ++ t)) (up-out M o h)
+          ap (λ (l : List ℕ). mournedSerials alias (length l) r from (upTo o M) (serialsBytes l ++ t)) (from-out M o r (omega arith) h)
+          ∙ ap (λ (S : Places). mournedSerials alias (length c) r from S (serialsBytes c ++ t)) (up-out M o h)
           ∙ next from (omega arith) (omega arith)
 
-  pub mourned-read : mournedSection r (length (chosen M r) ∷ (serialsBytes (chosen M r) ++ t)) ≡ got M t
+  pub mourned-read : mournedSection alias r (length (chosen M r) ∷ (serialsBytes (chosen M r) ++ t)) ≡ got M t
   unfolding mournedSection then byte
   mourned-read =
       check-yes _ 3 _ (le-leb (length (chosen M r)) (length r) (chosen-at-most M r))
-      ∙ ap (λ (l : List ℕ). mournedSerials (length l) r 0 nothing (serialsBytes l ++ t)) (sym (from-zero M r))
-      ∙ ap (λ (S : Places). mournedSerials (length (chosenFrom M 0 r)) r 0 S (serialsBytes (chosenFrom M 0 r) ++ t)) (sym (up-none M))
+      ∙ ap (λ (l : List ℕ). mournedSerials alias (length l) r 0 nothing (serialsBytes l ++ t)) (sym (from-zero M r))
+      ∙ ap (λ (S : Places). mournedSerials alias (length (chosenFrom M 0 r)) r 0 S (serialsBytes (chosenFrom M 0 r) ++ t)) (sym (up-none M))
       ∙ mourned-rest (length r) 0 0 (omega arith) (omega arith)
 
 with-self : (A : Places) (p : ℕ) → with p A p ≡ true
@@ -354,72 +364,72 @@ with-on A p r l on k e = go (or-cases (A k) (eqb k p) e)
     go (inl h) = on k h
     go (inr h) = rw (eqb-true k p h) l
 
--- after the reading the set has, from `from` on, just the places of those serials
-pub mourned-back : (m : ℕ) (r : List ℕ) (from : ℕ) (A : Places) (s : List ℕ) (S : Places) (t : List ℕ)
-    → ((k : ℕ) → from ≤ k → A k ≡ false) → ((k : ℕ) → A k ≡ true → k < length r) → mournedSerials m r from A s ≡ got S t
-    → (4 * m ≤ length s) × (t ≡ drop (4 * m) s) × (chosenFrom S from r ≡ serials m s) × ((k : ℕ) → k < from → S k ≡ A k) × ((k : ℕ) → S k ≡ true → k < length r)
+-- after the reading the set has, from `from` on, just the places of what those serials stand for
+pub mourned-back : (alias : ℕ → ℕ) (m : ℕ) (r : List ℕ) (from : ℕ) (A : Places) (s : List ℕ) (S : Places) (t : List ℕ)
+    → ((k : ℕ) → from ≤ k → A k ≡ false) → ((k : ℕ) → A k ≡ true → k < length r) → mournedSerials alias m r from A s ≡ got S t
+    → (4 * m ≤ length s) × (t ≡ drop (4 * m) s) × (chosenFrom S from r ≡ map (standsFor alias r) (serials m s)) × ((k : ℕ) → k < from → S k ≡ A k) × ((k : ℕ) → S k ≡ true → k < length r)
 unfolding mournedSerials serials
-mourned-back zero r from A s S t z on e =
+mourned-back alias zero r from A s S t z on e =
     let w : A ≡ S = cc in
     let u : s ≡ t = cc in
     (omega arith, sym u, from-none S from r (rw w at z), λ k l. ap (λ (B : Places). B k) (sym w), rw w at on)
-mourned-back (suc m) r from A s S t z on e =
-    let w = then-back (serial s) (λ x s₁. check (holds x r) 6 (check (leb from (placeOf x r)) 7 (mournedSerials m r (suc (placeOf x r)) (with (placeOf x r) A) s₁))) S t e in
+mourned-back alias (suc m) r from A s S t z on e =
+    let w = then-back (serial s) (λ x s₁. check (isOn alias r x) 6 (check (leb from (placeOn alias r x)) 7 (mournedSerials alias m r (suc (placeOn alias r x)) (with (placeOn alias r x) A) s₁))) S t e in
     let x : ℕ = w .0 in
     let s₁ : List ℕ = w .1 in
-    let p : ℕ = placeOf x r in
+    let p : ℕ = placeOn alias r x in
     let v = serial-back s x s₁ (w .2) in
-    let c = check-back (holds x r) 6 (check (leb from p) 7 (mournedSerials m r (suc p) (with p A) s₁)) S t (w .3) in
-    let d = check-back (leb from p) 7 (mournedSerials m r (suc p) (with p A) s₁) S t (c .1) in
-    let lp : p < length r = holds-below x r (c .0) in
+    let c = check-back (isOn alias r x) 6 (check (leb from p) 7 (mournedSerials alias m r (suc p) (with p A) s₁)) S t (w .3) in
+    let d = check-back (leb from p) 7 (mournedSerials alias m r (suc p) (with p A) s₁) S t (c .1) in
+    let lp : p < length r = holds-below (standsFor alias r x) r (c .0) in
     let lf : from ≤ p = leb-true from p (d .0) in
-    let u = mourned-back m r (suc p) (with p A) s₁ S t (λ k l. with-other A p k (λ q. omega arith) ∙ z k (omega arith)) (with-on A p r lp on) (d .1) in
+    let u = mourned-back alias m r (suc p) (with p A) s₁ S t (λ k l. with-other A p k (λ q. omega arith) ∙ z k (omega arith)) (with-on A p r lp on) (d .1) in
     let j : from + (p - from) ≡ p = omega arith in
     let next : chosenFrom S from r ≡ getD r p 0 ∷ chosenFrom S (suc p) r =
     from-skip S (p - from) from r (omega arith) (λ k f b. u .3 k (omega arith) ∙ with-other A p k (λ q. omega arith) ∙ z k f)
     ∙ ap (λ (k : ℕ). chosenFrom S k r) j ∙ from-in S p r lp (u .3 p (omega arith) ∙ with-self A p) in (
       omega (arith, v .0, u .0, ap length (v .3) ∙ length-drop 4 s),
       u .1 ∙ ap (drop (4 * m)) (v .3) ∙ four-more m s,
-      next ∙ ap₂ (λ (y : ℕ) (l : List ℕ). y ∷ l) (place-at x r lp ∙ v .2) (u .2 ∙ ap (serials m) (v .3)),
+      next ∙ ap₂ (λ (y : ℕ) (l : List ℕ). y ∷ l) (place-at (standsFor alias r x) r lp ∙ ap (standsFor alias r) (v .2)) (u .2 ∙ ap (λ (l : List ℕ). map (standsFor alias r) (serials m l)) (v .3)),
       λ k l. u .3 k (omega arith) ∙ with-other A p k (λ q. omega arith),
       u .4,
     )
 
 -- the mourned section: its count, its serials, and the bytes after it
-pub record Mourning (r s : List ℕ) (M : Places) (t : List ℕ) : Type 0 where
+pub record Mourning (alias : ℕ → ℕ) (r s : List ℕ) (M : Places) (t : List ℕ) : Type 0 where
   pub from-serials : List ℕ
   pub count : s ≡ length (chosen M r) ∷ from-serials
   pub there : 4 * length (chosen M r) ≤ length from-serials
-  pub are : chosen M r ≡ serials (length (chosen M r)) from-serials
+  pub are : chosen M r ≡ map (standsFor alias r) (serials (length (chosen M r)) from-serials)
   pub rest : t ≡ drop (4 * length (chosen M r)) from-serials
   pub on : (k : ℕ) → M k ≡ true → k < length r
 
-pub section-back : (r s : List ℕ) (M : Places) (t : List ℕ) → mournedSection r s ≡ got M t → Mourning r s M t
+pub section-back : (alias : ℕ → ℕ) (r s : List ℕ) (M : Places) (t : List ℕ) → mournedSection alias r s ≡ got M t → Mourning alias r s M t
 unfolding mournedSection
-section-back r s M t e =
+section-back alias r s M t e =
     let w = then-back (byte s) _ M t e in
     let m : ℕ = w .0 in
     let u : List ℕ = w .1 in
-    let c = check-back (leb m (length r)) 3 (mournedSerials m r 0 nothing u) M t (w .3) in
-    let v = mourned-back m r 0 nothing u M t (λ k l. refl) (λ k h. clash h refl) (c .1) in
-    let are : chosen M r ≡ serials m u = sym (from-zero M r) ∙ v .2 in
-    let n : m ≡ length (chosen M r) = sym (ap length are ∙ length-serials m u) in
+    let c = check-back (leb m (length r)) 3 (mournedSerials alias m r 0 nothing u) M t (w .3) in
+    let v = mourned-back alias m r 0 nothing u M t (λ k l. refl) (λ k h. clash h refl) (c .1) in
+    let are : chosen M r ≡ map (standsFor alias r) (serials m u) = sym (from-zero M r) ∙ v .2 in
+    let n : m ≡ length (chosen M r) = sym (ap length are ∙ length-map (serials m u) (standsFor alias r) ∙ length-serials m u) in
     record {
       from-serials = u;
       count = byte-back s m u (w .2) ∙ ap (λ (k : ℕ). k ∷ u) n;
       there = omega (arith, v .0);
-      are = are ∙ ap (λ (k : ℕ). serials k u) n;
+      are = are ∙ ap (λ (k : ℕ). map (standsFor alias r) (serials k u)) n;
       rest = v .1 ∙ ap (λ (k : ℕ). drop (4 * k) u) n;
       on = v .4;
     }
 
 -- the sections before the mourned
-pub record Heading (s : List ℕ) (h : Head) (t : List ℕ) : Type 0 where
+pub record Heading (alias : ℕ → ℕ) (s : List ℕ) (h : Head) (t : List ℕ) : Type 0 where
   pub from-own : List ℕ
   pub from-serials : List ℕ
   pub kind : s ≡ kindByte (h .kind) ∷ from-own
   pub own-there : 4 ≤ length from-own
-  pub own-is : getD (h .roster) (h .own) 0 ≡ wordAt from-own 0
+  pub own-is : getD (h .roster) (h .own) 0 ≡ standsFor alias (h .roster) (wordAt from-own 0)
   pub count : drop 4 from-own ≡ length (h .roster) ∷ from-serials
   pub there : 4 * length (h .roster) ≤ length from-serials
   pub are : h .roster ≡ serials (length (h .roster)) from-serials
@@ -460,30 +470,30 @@ listing-back s r t e =
       };
     }
 
-heading-is : (s : List ℕ) (g h : Head) (u t : List ℕ) → got g u ≡ got h t → Heading s g u → Heading s h t
-heading-is s g h u t e a =
+heading-is : (alias : ℕ → ℕ) (s : List ℕ) (g h : Head) (u t : List ℕ) → got g u ≡ got h t → Heading alias s g u → Heading alias s h t
+heading-is alias s g h u t e a =
     let p : g ≡ h = cc in
     let q : u ≡ t = cc in
-    subst (λ (k : Head). Heading s k t) p (subst (λ (l : List ℕ). Heading s g l) q a)
+    subst (λ (k : Head). Heading alias s k t) p (subst (λ (l : List ℕ). Heading alias s g l) q a)
 
-pub head-back : (s : List ℕ) (h : Head) (t : List ℕ) → headSection s ≡ got h t → Heading s h t
+pub head-back : (alias : ℕ → ℕ) (s : List ℕ) (h : Head) (t : List ℕ) → headSection alias s ≡ got h t → Heading alias s h t
 unfolding headSection
-head-back s h t e =
+head-back alias s h t e =
     let a = then-back (kindSection s) _ h t e in
     let b = then-back (serial (a .1)) _ h t (a .3) in
     let own : ℕ = b .0 in
     let c = then-back (rosterSection (b .1)) _ h t (b .3) in
     let r : List ℕ = c .0 in
-    let d = check-back (holds own r) 6 _ h t (c .3) in
+    let d = check-back (isOn alias r own) 6 _ h t (c .3) in
     let v = serial-back (a .1) own (b .1) (b .2) in
     let w : Listing (b .1) r (c .1) = listing-back (b .1) r (c .1) (c .2) in
-    let on : placeOf own r < length r = holds-below own r (d .0) in
-    heading-is s (record { kind = a .0; own = placeOf own r; roster = r }) h (c .1) t (d .1) (record {
+    let on : placeOn alias r own < length r = holds-below (standsFor alias r own) r (d .0) in
+    heading-is alias s (record { kind = a .0; own = placeOn alias r own; roster = r }) h (c .1) t (d .1) (record {
       from-own = a .1;
       from-serials = w .from-serials;
       kind = kind-back s (a .0) (a .1) (a .2);
       own-there = v .0;
-      own-is = place-at own r on ∙ v .2;
+      own-is = place-at (standsFor alias r own) r on ∙ ap (standsFor alias r) (v .2);
       count = sym (v .3) ∙ w .count;
       there = w .there;
       are = w .are;
@@ -498,27 +508,27 @@ head-back s h t e =
 abbrev pub headOf : Stored → Head
 headOf x = record { kind = x .kind; own = x .own; roster = x .roster }
 
-pub record Whole (s : List ℕ) (x : Stored) (t : List ℕ) : Type 0 where
+pub record Whole (alias : ℕ → ℕ) (s : List ℕ) (x : Stored) (t : List ℕ) : Type 0 where
   pub between : List ℕ
-  pub heading : Heading s (headOf x) between
-  pub mourning : Mourning (x .roster) between (x .mourned) t
+  pub heading : Heading alias s (headOf x) between
+  pub mourning : Mourning alias (x .roster) between (x .mourned) t
 
-whole-is : (s : List ℕ) (y x : Stored) (u t : List ℕ) → got y u ≡ got x t → Whole s y u → Whole s x t
-whole-is s y x u t e a =
+whole-is : (alias : ℕ → ℕ) (s : List ℕ) (y x : Stored) (u t : List ℕ) → got y u ≡ got x t → Whole alias s y u → Whole alias s x t
+whole-is alias s y x u t e a =
     let p : y ≡ x = cc in
     let q : u ≡ t = cc in
-    subst (λ (k : Stored). Whole s k t) p (subst (λ (l : List ℕ). Whole s y l) q a)
+    subst (λ (k : Stored). Whole alias s k t) p (subst (λ (l : List ℕ). Whole alias s y l) q a)
 
-pub stored-back : (s : List ℕ) (x : Stored) (t : List ℕ) → stored s ≡ got x t → Whole s x t
+pub stored-back : (alias : ℕ → ℕ) (s : List ℕ) (x : Stored) (t : List ℕ) → stored alias s ≡ got x t → Whole alias s x t
 unfolding stored
-stored-back s x t e =
-    let a = then-back (headSection s) _ x t e in
+stored-back alias s x t e =
+    let a = then-back (headSection alias s) _ x t e in
     let h : Head = a .0 in
-    let b = then-back (mournedSection (h .roster) (a .1)) _ x t (a .3) in
-    whole-is s (record { kind = h .kind; own = h .own; roster = h .roster; mourned = b .0 }) x (b .1) t (b .3) (record {
+    let b = then-back (mournedSection alias (h .roster) (a .1)) _ x t (a .3) in
+    whole-is alias s (record { kind = h .kind; own = h .own; roster = h .roster; mourned = b .0 }) x (b .1) t (b .3) (record {
       between = a .1;
-      heading = head-back s h (a .1) (a .2);
-      mourning = section-back (h .roster) (a .1) (b .0) (b .1) (b .2);
+      heading = head-back alias s h (a .1) (a .2);
+      mourning = section-back alias (h .roster) (a .1) (b .0) (b .1) (b .2);
     })
 
 -- the bytes of a record before others, laid out flat

@@ -12,9 +12,9 @@ use borrow.Author.Tests.{le-leb, lt-leb}
 use Rattle.places.specs.Sets.{Places, nothing, with}
 use Rattle.places.specs.PlaceSets.{found}
 use Rattle.places.specs.declared.Found.{Found}
-use Rattle.rosters.specs.Rosters.{placeOf, placeFrom, firstRepeat, holds}
+use Rattle.rosters.specs.Rosters.{placeOf, placeFrom, firstRepeat}
 use Rattle.rosters.proofs.Laws.{place-from}
-use Rattle.records.specs.Layout.{Parsed, got, refused, then, check, wordAt, serial, mournedSerials, mournedSection}
+use Rattle.records.specs.Layout.{Parsed, got, refused, then, check, wordAt, serial, isOn, placeOn, mournedSerials, mournedSection}
 use Rattle.records.proofs.Sections.{check-yes, check-no, byte-early, byte-got, serial-early, serial-zero, serial-got}
 
 -- on a roster with no repeat, looking along it finds a serial at its place
@@ -23,80 +23,80 @@ found-along r single from x f e = e ∙ ap (found (length r)) (place-from r sing
 
 -- ---- the count
 
-module _ (r : List ℕ) where
+module _ (alias : ℕ → ℕ) (r : List ℕ) where
   counted : ℕ → List ℕ → Parsed Places
-  counted m s = check (leb m (length r)) 3 (mournedSerials m r 0 nothing s)
+  counted m s = check (leb m (length r)) 3 (mournedSerials alias m r 0 nothing s)
 
   module _ (s : List ℕ) (p : ℕ) where
-    pub mourned-early : length s ≤ p → mournedSection r (drop p s) ≡ refused 1
+    pub mourned-early : length s ≤ p → mournedSection alias r (drop p s) ≡ refused 1
     unfolding mournedSection counted
     mourned-early h = byte-early s p counted h
 
     module _ (h : p < length s) where
-      pub mourned-many : length r < getD s p 0 → mournedSection r (drop p s) ≡ refused 3
+      pub mourned-many : length r < getD s p 0 → mournedSection alias r (drop p s) ≡ refused 3
       unfolding mournedSection counted
       mourned-many e = byte-got s p counted h ∙ check-no _ 3 _ (lt-leb _ _ e)
 
-      pub mourned-counted : getD s p 0 ≤ length r → mournedSection r (drop p s) ≡ mournedSerials (getD s p 0) r 0 nothing (drop (p + 1) s)
+      pub mourned-counted : getD s p 0 ≤ length r → mournedSection alias r (drop p s) ≡ mournedSerials alias (getD s p 0) r 0 nothing (drop (p + 1) s)
       unfolding mournedSection counted
       mourned-counted e = byte-got s p counted h ∙ check-yes _ 3 _ (le-leb _ _ e)
 
 -- ---- the serials
 
 -- from the j-th on, with the lowest place that may come and the set so far
-unfoldable pub onwards : List ℕ → ℕ → ℕ → List ℕ → ℕ → ℕ → Places → Parsed Places
-onwards s at m r j low M = mournedSerials (m - j) r low M (drop (at + j * 4) s)
+unfoldable pub onwards : (ℕ → ℕ) → List ℕ → ℕ → ℕ → List ℕ → ℕ → ℕ → Places → Parsed Places
+onwards alias s at m r j low M = mournedSerials alias (m - j) r low M (drop (at + j * 4) s)
 
-module _ (s : List ℕ) (at m : ℕ) (r : List ℕ) where
-  pub onwards-start : (M : Places) → M ≡ nothing → mournedSerials m r 0 nothing (drop at s) ≡ onwards s at m r 0 0 M
+module _ (alias : ℕ → ℕ) (s : List ℕ) (at m : ℕ) (r : List ℕ) where
+  pub onwards-start : (M : Places) → M ≡ nothing → mournedSerials alias m r 0 nothing (drop at s) ≡ onwards alias s at m r 0 0 M
   unfolding onwards
   onwards-start M e =
       let p : at + 0 * 4 ≡ at = omega arith in
       let q : m - 0 ≡ m = omega arith in
       rw (p, q, e)
 
-  pub onwards-done : (j low : ℕ) (M : Places) → j ≡ m → onwards s at m r j low M ≡ got M (drop (at + m * 4) s)
+  pub onwards-done : (j low : ℕ) (M : Places) → j ≡ m → onwards alias s at m r j low M ≡ got M (drop (at + m * 4) s)
   unfolding onwards mournedSerials
   onwards-done j low M e =
       let q : m - j ≡ 0 = omega arith in
       rw (q, e)
 
-module _ (s : List ℕ) (at m : ℕ) (r : List ℕ) (j low : ℕ) (M : Places) (more : j < m) where
+module _ (alias : ℕ → ℕ) (s : List ℕ) (at m : ℕ) (r : List ℕ) (j low : ℕ) (M : Places) (more : j < m) where
   next : ℕ → List ℕ → Parsed Places
   next x s₁ =
-      check (holds x r) 6
-      (check (leb low (placeOf x r)) 7 (mournedSerials (m - (j + 1)) r (suc (placeOf x r)) (with (placeOf x r) M) s₁))
+      check (isOn alias r x) 6
+      (check (leb low (placeOn alias r x)) 7 (mournedSerials alias (m - (j + 1)) r (suc (placeOn alias r x)) (with (placeOn alias r x) M) s₁))
 
-  step : onwards s at m r j low M ≡ then (serial (drop (at + j * 4) s)) next
+  step : onwards alias s at m r j low M ≡ then (serial (drop (at + j * 4) s)) next
   unfolding onwards next mournedSerials
   step =
       let q : m - j ≡ suc (m - (j + 1)) = omega arith in
       rw q
 
-  pub onwards-early : length s < at + j * 4 + 4 → onwards s at m r j low M ≡ refused 1
+  pub onwards-early : length s < at + j * 4 + 4 → onwards alias s at m r j low M ≡ refused 1
   onwards-early h = step ∙ serial-early s (at + j * 4) next h
 
   -- x is the serial there
   module _ (h : at + j * 4 + 4 ≤ length s) (x : ℕ) (w : x ≡ wordAt s (at + j * 4)) where
-    pub onwards-zero : x ≡ 0 → onwards s at m r j low M ≡ refused 4
+    pub onwards-zero : x ≡ 0 → onwards alias s at m r j low M ≡ refused 4
     onwards-zero z = step ∙ serial-zero s (at + j * 4) next h x w z
 
     module _ (z : x ≡ 0 → ⊥) where
-      pub onwards-strange : holds x r ≡ false → onwards s at m r j low M ≡ refused 6
+      pub onwards-strange : isOn alias r x ≡ false → onwards alias s at m r j low M ≡ refused 6
       unfolding next
       onwards-strange e = step ∙ serial-got s (at + j * 4) next h x w z ∙ check-no _ 6 _ e
 
       -- and `place` where it stands on the roster
-      module _ (on : holds x r ≡ true) (place : ℕ) (g : placeOf x r ≡ place) where
-        pub onwards-falling : place < low → onwards s at m r j low M ≡ refused 7
+      module _ (on : isOn alias r x ≡ true) (place : ℕ) (g : placeOn alias r x ≡ place) where
+        pub onwards-falling : place < low → onwards alias s at m r j low M ≡ refused 7
         unfolding next
         onwards-falling e =
-            let d : placeOf x r < low = rw g e in
+            let d : placeOn alias r x < low = rw g e in
             step ∙ serial-got s (at + j * 4) next h x w z ∙ check-yes _ 6 _ on ∙ check-no _ 7 _ (lt-leb _ _ d)
 
-        pub onwards-more : (M' : Places) → M' ≡ with place M → low ≤ place → onwards s at m r j low M ≡ onwards s at m r (j + 1) (place + 1) M'
+        pub onwards-more : (M' : Places) → M' ≡ with place M → low ≤ place → onwards alias s at m r j low M ≡ onwards alias s at m r (j + 1) (place + 1) M'
         unfolding next onwards
         onwards-more M' v e =
-            let d : low ≤ placeOf x r = rw g e in
+            let d : low ≤ placeOn alias r x = rw g e in
             let p : at + j * 4 + 4 ≡ at + (j + 1) * 4 = omega arith in
             step ∙ serial-got s (at + j * 4) next h x w z ∙ check-yes _ 6 _ on ∙ check-yes _ 7 _ (le-leb _ _ d) ∙ rw (g, p, v, add-one place)

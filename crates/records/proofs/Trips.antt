@@ -1,7 +1,8 @@
 -- Reading and writing undo each other, on lists and in a buffer; how long a record is, where it lies, how it fails. Assumes nothing.
 use mathlib.Core.Path.{_≡_, refl, sym, ap, ap₂, subst, _∙_}
 use mathlib.Core.Bool.{Bool, true, false}
-use mathlib.Core.List.{List, [], _∷_, _++_, append-nil}
+use mathlib.Core.Logic.{_↔_}
+use mathlib.Core.List.{List, [], _∷_, _++_, map, append-nil}
 use Prim.Native.Nat.{ℕ, zero, suc, _+_, _-_, _*_, _^_, _≤_, _<_}
 use native.Mathlib.Omega.{arith}
 use lib.ListN.{length, getD, take, drop, length-drop, take-append-drop}
@@ -13,18 +14,20 @@ use Rattle.places.specs.PlaceSets.{packed}
 use Rattle.histories.specs.declared.Kind.{Kind}
 use Rattle.histories.specs.declared.Kind.the-variants.{Full}
 use Rattle.rosters.specs.Rosters.{placeOf}
+use Rattle.rosters.specs.Seconds.{itself, standsFor}
+use Rattle.rosters.proofs.Seconds.{stands-plain}
 use Rattle.records.specs.declared.Reading.the-variants as R
-use Rattle.records.specs.Layout.{Parsed, got, refused, then, check, byte, serial, kindSection, rosterSerials, rosterSection, Head, headSection, mournedSerials, mournedSection, Stored, stored, lone, kindByte, serialBytes, serialsBytes, chosen, layout}
+use Rattle.records.specs.Layout.{Parsed, got, refused, then, check, byte, wordAt, serial, kindSection, rosterSerials, rosterSection, placeOn, Head, headSection, mournedSerials, mournedSection, Stored, stored, lone, kindByte, serialBytes, serialsBytes, chosen, layout}
 use Rattle.records.specs.Records.{readingOf, reading, serials, putAt}
-use Rattle.records.proofs.Serials.{roster-apart, place-own, below-holds}
-use Rattle.records.proofs.Layouts.{AllBytes, IsStored, bytes-drop, then-got, check-yes, then-back, check-back, word-bytes, serials-below, serials-bytes, serial-read, kind-read, roster-read, chosen-at-most, chosen-all, mourned-read, Mourning, Heading, headOf, Whole, stored-back, layout-shape, length-layout, length-put, drop-put}
+use Rattle.records.proofs.Serials.{roster-apart, place-own}
+use Rattle.records.proofs.Layouts.{AllBytes, IsStored, bytes-drop, then-got, check-yes, then-back, check-back, word-bytes, serials-below, serials-bytes, serial-read, kind-read, roster-read, chosen-at-most, chosen-all, own-place, mourned-read, Mourning, Heading, headOf, Whole, stored-back, layout-shape, length-layout, length-put, drop-put}
 
 -- ---- what was read
 
 bytes-tail : (a : ℕ) (t : List ℕ) → AllBytes (a ∷ t) → AllBytes t
 bytes-tail a t h i = h (suc i)
 
-module _ (s : List ℕ) (k : Head) (t : List ℕ) (a : Heading s k t) (h : AllBytes s) where
+module _ (alias : ℕ → ℕ) (s : List ℕ) (k : Head) (t : List ℕ) (a : Heading alias s k t) (h : AllBytes s) where
   own-bytes : AllBytes (a .from-own)
   own-bytes = bytes-tail (kindByte (k .kind)) (a .from-own) (subst AllBytes (a .kind) h)
 
@@ -37,37 +40,44 @@ module _ (s : List ℕ) (k : Head) (t : List ℕ) (a : Heading s k t) (h : AllBy
   roster-below : (p : ℕ) → p < length (k .roster) → getD (k .roster) p 0 < 2 ^ 32
   roster-below p l = subst (λ (r : List ℕ). getD r p 0 < 2 ^ 32) (sym (a .are)) (serials-below (length (k .roster)) (a .from-serials) roster-bytes p l)
 
-  head-bytes : s ≡ kindByte (k .kind) ∷ (serialBytes (getD (k .roster) (k .own) 0) ++ (length (k .roster) ∷ (serialsBytes (k .roster) ++ t)))
+  -- its bytes are those of its parts, but for the own serial: there stands one that stands for the own place's
+  pub head-bytes : s ≡ kindByte (k .kind) ∷ (serialBytes (wordAt (a .from-own) 0) ++ (length (k .roster) ∷ (serialsBytes (k .roster) ++ t)))
   head-bytes =
       let n : ℕ = length (k .roster) in
       let serials-are : a .from-serials ≡ serialsBytes (k .roster) ++ t =
       serials-bytes n (a .from-serials) roster-bytes (a .there) ∙ ap₂ (λ (r l : List ℕ). serialsBytes r ++ l) (sym (a .are)) (sym (a .rest)) in
       a .kind
       ∙ ap (λ (l : List ℕ). kindByte (k .kind) ∷ l) (word-bytes (a .from-own) own-bytes (a .own-there)
-      ∙ ap₂ (λ (x : ℕ) (l : List ℕ). serialBytes x ++ l) (sym (a .own-is)) (a .count ∙ ap (λ (l : List ℕ). n ∷ l) serials-are))
+      ∙ ap (λ (l : List ℕ). serialBytes (wordAt (a .from-own) 0) ++ l) (a .count ∙ ap (λ (l : List ℕ). n ∷ l) serials-are))
 
-mourned-bytes : (r s : List ℕ) (M : Places) (t : List ℕ) → Mourning r s M t → AllBytes s → s ≡ length (chosen M r) ∷ (serialsBytes (chosen M r) ++ t)
+-- where no serial counts as another, each stands for itself
+stands-all : (r l : List ℕ) → map (standsFor itself r) l ≡ l
+stands-all r [] = refl
+stands-all r (x ∷ l) = ap₂ (λ (y : ℕ) (l : List ℕ). y ∷ l) (stands-plain r x) (stands-all r l)
+
+mourned-bytes : (r s : List ℕ) (M : Places) (t : List ℕ) → Mourning itself r s M t → AllBytes s → s ≡ length (chosen M r) ∷ (serialsBytes (chosen M r) ++ t)
 mourned-bytes r s M t a h =
-    let b : AllBytes (a .from-serials) = bytes-tail (length (chosen M r)) (a .from-serials) (subst AllBytes (a .count) h) in
+    let m : ℕ = length (chosen M r) in
+    let b : AllBytes (a .from-serials) = bytes-tail m (a .from-serials) (subst AllBytes (a .count) h) in
     a .count
-    ∙ ap (λ (l : List ℕ). length (chosen M r) ∷ l) (serials-bytes (length (chosen M r)) (a .from-serials) b (a .there)
-    ∙ ap₂ (λ (c l : List ℕ). serialsBytes c ++ l) (sym (a .are)) (sym (a .rest)))
+    ∙ ap (λ (l : List ℕ). m ∷ l) (serials-bytes m (a .from-serials) b (a .there)
+    ∙ ap₂ (λ (c l : List ℕ). serialsBytes c ++ l) (sym (a .are ∙ stands-all r (serials m (a .from-serials)))) (sym (a .rest)))
 
-pub stored-is : (s : List ℕ) (x : Stored) (rest : List ℕ) → AllBytes s → stored s ≡ got x rest → IsStored x
-stored-is s x rest h e =
-    let w : Whole s x rest = stored-back s x rest e in
-    record { roster = w .heading .sound; below = roster-below s (headOf x) (w .between) (w .heading) h; own = w .heading .own-on; mourned = w .mourning .on }
+pub stored-is : (alias : ℕ → ℕ) (s : List ℕ) (x : Stored) (rest : List ℕ) → AllBytes s → stored alias s ≡ got x rest → IsStored x
+stored-is alias s x rest h e =
+    let w : Whole alias s x rest = stored-back alias s x rest e in
+    record { roster = w .heading .sound; below = roster-below alias s (headOf x) (w .between) (w .heading) h; own = w .heading .own-on; mourned = w .mourning .on }
 
--- ---- reading what was written
+-- ---- reading what was written: in first serials, so that it does not matter what others count as
 
-module _ (x : Stored) (i : IsStored x) (rest : List ℕ) where
+module _ (alias : ℕ → ℕ) (x : Stored) (i : IsStored x) (rest : List ℕ) where
   roster-is : (t : List ℕ) → rosterSection (length (x .roster) ∷ (serialsBytes (x .roster) ++ t)) ≡ got (x .roster) t
   unfolding rosterSection then byte
   roster-is t =
       check-yes _ 3 _ (le-leb 1 (length (x .roster)) (i .roster .some)) ∙ check-yes _ 3 _ (le-leb (length (x .roster)) 128 (i .roster .few))
       ∙ roster-read (x .roster) [] t (roster-apart (x .roster) (i .roster)) (i .below)
 
-  head-is : (t : List ℕ) → headSection (kindByte (x .kind) ∷ (serialBytes (getD (x .roster) (x .own) 0) ++ (length (x .roster) ∷ (serialsBytes (x .roster) ++ t)))) ≡ got (headOf x) t
+  head-is : (t : List ℕ) → headSection alias (kindByte (x .kind) ∷ (serialBytes (getD (x .roster) (x .own) 0) ++ (length (x .roster) ∷ (serialsBytes (x .roster) ++ t)))) ≡ got (headOf x) t
   unfolding headSection
   head-is t =
       let own : ℕ = getD (x .roster) (x .own) 0 in
@@ -76,34 +86,51 @@ module _ (x : Stored) (i : IsStored x) (rest : List ℕ) where
       then-got _ (x .kind) (serialBytes own ++ s₂) (kind-read (x .kind) (serialBytes own ++ s₂))
       ∙ then-got _ own s₂ (serial-read own s₂ (i .roster .no-zero (x .own) (i .own)) (i .below (x .own) (i .own)))
       ∙ then-got _ (x .roster) t (roster-is t)
-      ∙ check-yes _ 6 _ (below-holds own (x .roster) (omega (arith, i .own)))
-      ∙ ap (λ (o : ℕ). got (record { kind = x .kind; own = o; roster = x .roster }) t) p
+      ∙ check-yes _ 6 _ (own-place alias (x .roster) own (x .own) p (i .own) .0)
+      ∙ ap (λ (o : ℕ). got (record { kind = x .kind; own = o; roster = x .roster }) t) (own-place alias (x .roster) own (x .own) p (i .own) .1)
 
-  pub read-layout : stored (layout x ++ rest) ≡ got x rest
+  pub read-layout : stored alias (layout x ++ rest) ≡ got x rest
   unfolding stored
   read-layout =
       let s₃ : List ℕ = length (chosen (x .mourned) (x .roster)) ∷ (serialsBytes (chosen (x .mourned) (x .roster)) ++ rest) in
-      ap stored (layout-shape x rest) ∙ then-got _ (headOf x) s₃ (head-is s₃)
-      ∙ then-got _ (x .mourned) rest (mourned-read (x .roster) (roster-apart (x .roster) (i .roster)) (i .below) (x .mourned) (i .mourned) rest)
+      ap (stored alias) (layout-shape x rest) ∙ then-got _ (headOf x) s₃ (head-is s₃)
+      ∙ then-got _ (x .mourned) rest (mourned-read alias (x .roster) (roster-apart (x .roster) (i .roster)) (i .below) (x .mourned) (i .mourned) rest)
 
-pub layout-lone : (x : Stored) → IsStored x → lone (layout x) ≡ got x []
+pub layout-lone : (alias : ℕ → ℕ) (x : Stored) → IsStored x → lone alias (layout x) ≡ got x []
 unfolding lone check
-layout-lone x i = then-got _ x [] (ap stored (sym (append-nil (layout x))) ∙ read-layout x i [])
+layout-lone alias x i = then-got _ x [] (ap (stored alias) (sym (append-nil (layout x))) ∙ read-layout alias x i [])
 
 -- ---- writing what was read
 
-pub layout-read : (s : List ℕ) (x : Stored) (rest : List ℕ) → AllBytes s → stored s ≡ got x rest → s ≡ layout x ++ rest
+-- a record without second serials: its bytes come back
+pub layout-read : (s : List ℕ) (x : Stored) (rest : List ℕ) → AllBytes s → stored itself s ≡ got x rest → s ≡ layout x ++ rest
 layout-read s x rest h e =
-    let w : Whole s x rest = stored-back s x rest e in
-    head-bytes s (headOf x) (w .between) (w .heading) h
-    ∙ ap (λ (l : List ℕ). kindByte (x .kind) ∷ (serialBytes (getD (x .roster) (x .own) 0) ++ (length (x .roster) ∷ (serialsBytes (x .roster) ++ l)))) (mourned-bytes (x .roster) (w .between) (x .mourned) rest (w .mourning) (rest-bytes s (headOf x) (w .between) (w .heading) h))
+    let w : Whole itself s x rest = stored-back itself s x rest e in
+    let a = w .heading in
+    head-bytes itself s (headOf x) (w .between) a h
+    ∙ ap₂ (λ (own : ℕ) (l : List ℕ). kindByte (x .kind) ∷ (serialBytes own ++ (length (x .roster) ∷ (serialsBytes (x .roster) ++ l))))
+    (sym (a .own-is ∙ stands-plain (x .roster) (wordAt (a .from-own) 0)))
+    (mourned-bytes (x .roster) (w .between) (x .mourned) rest (w .mourning) (rest-bytes itself s (headOf x) (w .between) a h))
     ∙ sym (layout-shape x rest)
 
+module _ (alias : ℕ → ℕ) (s : List ℕ) (x : Stored) (rest : List ℕ) (h : AllBytes s) where
+  -- any record: what was read is written and read again as the same kind, own place, roster and mourned set, whatever serials count as then
+  pub same-meaning : stored alias s ≡ got x rest → (other : ℕ → ℕ) (more : List ℕ) → stored other (layout x ++ more) ≡ got x more
+  same-meaning e other more = read-layout other x (stored-is alias s x rest h e) more
+
+  -- one without second serials reads the same whatever serials count as
+  pub reads-anyway : stored itself s ≡ got x rest → stored alias s ≡ got x rest
+  reads-anyway e = ap (stored alias) (layout-read s x rest h e) ∙ read-layout alias x (stored-is itself s x rest h e) rest
+
+  -- and of the records that are read, these are just the ones whose bytes come back
+  pub bytes-back : stored alias s ≡ got x rest → (stored itself s ≡ got x rest) ↔ (s ≡ layout x ++ rest)
+  bytes-back e = (layout-read s x rest h, λ l. ap (stored itself) l ∙ same-meaning e itself rest)
+
 -- a lone record, and nothing after it
-pub lone-back : (s : List ℕ) (x : Stored) (rest : List ℕ) → lone s ≡ got x rest → (stored s ≡ got x rest) × (rest ≡ [])
+pub lone-back : (alias : ℕ → ℕ) (s : List ℕ) (x : Stored) (rest : List ℕ) → lone alias s ≡ got x rest → (stored alias s ≡ got x rest) × (rest ≡ [])
 unfolding lone
-lone-back s x rest e =
-    let w = then-back (stored s) _ x rest e in
+lone-back alias s x rest e =
+    let w = then-back (stored alias s) _ x rest e in
     let c = check-back (eqb (length (w .1)) 0) 8 (got (w .0) (w .1)) x rest (w .3) in
     let q : w .1 ≡ rest = cc in
     (w .2 ∙ c .1, sym q ∙ no-length (w .1) (eqb-true (length (w .1)) 0 (c .0)))
@@ -112,9 +139,9 @@ lone-back s x rest e =
     no-length [] e = refl
     no-length (y ∷ ys) e = absurd (omega arith)
 
-pub lone-layout : (s : List ℕ) (x : Stored) (rest : List ℕ) → AllBytes s → lone s ≡ got x rest → s ≡ layout x
+pub lone-layout : (s : List ℕ) (x : Stored) (rest : List ℕ) → AllBytes s → lone itself s ≡ got x rest → s ≡ layout x
 lone-layout s x rest h e =
-    let w = lone-back s x rest e in
+    let w = lone-back itself s x rest e in
     layout-read s x rest h (w .0) ∙ ap (λ (l : List ℕ). layout x ++ l) (w .1) ∙ append-nil (layout x)
 
 -- ---- lengths
@@ -170,15 +197,15 @@ longest-there = (record { kind = Full; own = 0; roster = rising 128 1; mourned =
 
 -- ---- in a buffer
 
-module _ (x : Stored) (i : IsStored x) (out : List ℕ) (at : ℕ) (fits : at + length (layout x) ≤ length out) where
-  pub read-back : reading (putAt at (layout x) out) at ≡ readingOf (length out) at (got x (drop (at + length (layout x)) out))
+module _ (alias : ℕ → ℕ) (x : Stored) (i : IsStored x) (out : List ℕ) (at : ℕ) (fits : at + length (layout x) ≤ length out) where
+  pub read-back : reading alias (putAt at (layout x) out) at ≡ readingOf (length out) at (got x (drop (at + length (layout x)) out))
   unfolding reading
   read-back =
       ap₂ (λ (n : ℕ) (p : Parsed Stored). readingOf n at p) (length-put at (layout x) out fits)
-      (ap stored (drop-put at (layout x) out fits) ∙ read-layout x i (drop (at + length (layout x)) out))
+      (ap (stored alias) (drop-put at (layout x) out fits) ∙ read-layout alias x i (drop (at + length (layout x)) out))
 
   -- the same, word for word: the record ends where its bytes do
-  pub read-back-is : reading (putAt at (layout x) out) at
+  pub read-back-is : reading alias (putAt at (layout x) out) at
       ≡ R.Read (record { kind = x .kind; own = record { 0 = x .own }; roster = at + 6; count = length (x .roster); mourned = packed (x .mourned); next = at + length (layout x) })
   unfolding readingOf
   read-back-is =
@@ -186,7 +213,7 @@ module _ (x : Stored) (i : IsStored x) (out : List ℕ) (at : ℕ) (fits : at + 
       read-back ∙ ap (λ (n : ℕ). R.Read (record { kind = x .kind; own = record { 0 = x .own }; roster = at + 6; count = length (x .roster); mourned = packed (x .mourned); next = n })) e
 
 -- where a record's roster lies in its bytes, and where it ends
-module _ (s : List ℕ) (x : Stored) (rest : List ℕ) (w : Whole s x rest) where
+module _ (alias : ℕ → ℕ) (s : List ℕ) (x : Stored) (rest : List ℕ) (w : Whole alias s x rest) where
   serials-from : drop 6 s ≡ w .heading .from-serials
   serials-from = ap (drop 6) (w .heading .kind) ∙ sym (drop-drop 1 4 (w .heading .from-own)) ∙ ap (drop 1) (w .heading .count)
 
@@ -216,17 +243,17 @@ module _ (s : List ℕ) (x : Stored) (rest : List ℕ) (w : Whole s x rest) wher
       let e : 6 + 4 * n + 1 + 4 * m ≡ length (layout x) = omega (arith, length-layout x) in
       w .mourning .rest ∙ ap (drop (4 * m)) last ∙ drop-drop (4 * m) (6 + 4 * n + 1) s ∙ ap (λ (k : ℕ). drop k s) e
 
-module _ (b : List ℕ) (at : ℕ) (x : Stored) (rest : List ℕ) (e : stored (drop at b) ≡ got x rest) where
+module _ (alias : ℕ → ℕ) (b : List ℕ) (at : ℕ) (x : Stored) (rest : List ℕ) (e : stored alias (drop at b) ≡ got x rest) where
   -- the roster's serials stand six bytes on
   pub serials-read : serials (length (x .roster)) (drop (at + 6) b) ≡ x .roster
   serials-read =
-      let w : Whole (drop at b) x rest = stored-back (drop at b) x rest e in
-      ap (serials (length (x .roster))) (sym (drop-drop 6 at b) ∙ serials-from (drop at b) x rest w) ∙ sym (w .heading .are)
+      let w : Whole alias (drop at b) x rest = stored-back alias (drop at b) x rest e in
+      ap (serials (length (x .roster))) (sym (drop-drop 6 at b) ∙ serials-from alias (drop at b) x rest w) ∙ sym (w .heading .are)
 
   ends : at + length (layout x) + length rest ≡ length b
   ends =
-      let w : Whole (drop at b) x rest = stored-back (drop at b) x rest e in
-      omega (arith, whole-length (drop at b) x rest w, length-drop at b, length-layout x)
+      let w : Whole alias (drop at b) x rest = stored-back alias (drop at b) x rest e in
+      omega (arith, whole-length alias (drop at b) x rest w, length-drop at b, length-layout x)
 
   pub roster-within : at + 6 + 4 * length (x .roster) ≤ length b
   roster-within = omega (arith, ends, length-layout x)
@@ -236,13 +263,13 @@ module _ (b : List ℕ) (at : ℕ) (x : Stored) (rest : List ℕ) (e : stored (d
   next-is = omega (arith, ends)
 
   pub rest-is : rest ≡ drop (at + length (layout x)) b
-  rest-is = whole-rest (drop at b) x rest (stored-back (drop at b) x rest e) ∙ drop-drop (length (layout x)) at b
+  rest-is = whole-rest alias (drop at b) x rest (stored-back alias (drop at b) x rest e) ∙ drop-drop (length (layout x)) at b
 
--- written over itself, a record changes nothing
-pub write-back : (b : List ℕ) (at : ℕ) (x : Stored) (rest : List ℕ) → AllBytes b → stored (drop at b) ≡ got x rest → putAt at (layout x) b ≡ b
+-- written over itself, a record without second serials changes nothing
+pub write-back : (b : List ℕ) (at : ℕ) (x : Stored) (rest : List ℕ) → AllBytes b → stored itself (drop at b) ≡ got x rest → putAt at (layout x) b ≡ b
 unfolding putAt
 write-back b at x rest h e =
-    ap (λ (l : List ℕ). take at b ++ (layout x ++ l)) (sym (rest-is b at x rest e))
+    ap (λ (l : List ℕ). take at b ++ (layout x ++ l)) (sym (rest-is itself b at x rest e))
     ∙ ap (λ (l : List ℕ). take at b ++ l) (sym (layout-read (drop at b) x rest (bytes-drop at b h) e)) ∙ take-append-drop at b
 
 -- ---- which faults there are
@@ -262,7 +289,7 @@ unfolding check
 check-numbered most true j p l h = h
 check-numbered most false j p l h = l
 
-module _ (most : ℕ) (all : 7 ≤ most) where
+module _ (alias : ℕ → ℕ) (most : ℕ) (all : 7 ≤ most) where
   byte-numbered : (s : List ℕ) → Numbered most (byte s)
   unfolding byte
   byte-numbered [] = (omega arith, omega arith)
@@ -278,7 +305,7 @@ module _ (most : ℕ) (all : 7 ≤ most) where
   serials-numbered (suc n) seen s =
       then-numbered most (serial s) _ (serial-numbered s) (λ x s₁. check-numbered most _ 5 _ (omega arith, omega arith) (serials-numbered n (seen ++ (x ∷ [])) s₁))
 
-  head-numbered : (s : List ℕ) → Numbered most (headSection s)
+  head-numbered : (s : List ℕ) → Numbered most (headSection alias s)
   unfolding headSection kindSection rosterSection
   head-numbered s =
       then-numbered most (kindSection s) _
@@ -287,24 +314,24 @@ module _ (most : ℕ) (all : 7 ≤ most) where
       (then-numbered most (byte s₂) _ (byte-numbered s₂) (λ n s₃. check-numbered most _ 3 _ (omega arith, omega arith) (check-numbered most _ 3 _ (omega arith, omega arith) (serials-numbered n [] s₃))))
       (λ r s₃. check-numbered most _ 6 _ (omega arith, omega arith) tt)))
 
-  mourned-numbered : (m : ℕ) (r : List ℕ) (from : ℕ) (M : Places) (s : List ℕ) → Numbered most (mournedSerials m r from M s)
+  mourned-numbered : (m : ℕ) (r : List ℕ) (from : ℕ) (M : Places) (s : List ℕ) → Numbered most (mournedSerials alias m r from M s)
   unfolding mournedSerials
   mourned-numbered zero r from M s = tt
   mourned-numbered (suc m) r from M s =
       then-numbered most (serial s) _ (serial-numbered s) (λ x s₁. check-numbered most _ 6 _ (omega arith, omega arith) (check-numbered most _ 7 _ (omega arith, omega arith)
-      (mourned-numbered m r (suc (placeOf x r)) (with (placeOf x r) M) s₁)))
+      (mourned-numbered m r (suc (placeOn alias r x)) (with (placeOn alias r x) M) s₁)))
 
-  stored-numbered : (s : List ℕ) → Numbered most (stored s)
+  stored-numbered : (s : List ℕ) → Numbered most (stored alias s)
   unfolding stored mournedSection
   stored-numbered s =
-      then-numbered most (headSection s) _ (head-numbered s) (λ h s₁. then-numbered most (mournedSection (h .roster) s₁) _
+      then-numbered most (headSection alias s) _ (head-numbered s) (λ h s₁. then-numbered most (mournedSection alias (h .roster) s₁) _
       (then-numbered most (byte s₁) _ (byte-numbered s₁) (λ m s₂. check-numbered most _ 3 _ (omega arith, omega arith) (mourned-numbered m (h .roster) 0 nothing s₂)))
       (λ M s₂. tt))
 
-pub stored-faults : (s : List ℕ) (j : ℕ) → stored s ≡ refused j → (1 ≤ j) × (j ≤ 7)
-stored-faults s j e = subst (Numbered 7) e (stored-numbered 7 (omega arith) s)
+pub stored-faults : (alias : ℕ → ℕ) (s : List ℕ) (j : ℕ) → stored alias s ≡ refused j → (1 ≤ j) × (j ≤ 7)
+stored-faults alias s j e = subst (Numbered 7) e (stored-numbered alias 7 (omega arith) s)
 
-pub faults : (s : List ℕ) (j : ℕ) → lone s ≡ refused j → (1 ≤ j) × (j ≤ 8)
+pub faults : (alias : ℕ → ℕ) (s : List ℕ) (j : ℕ) → lone alias s ≡ refused j → (1 ≤ j) × (j ≤ 8)
 unfolding lone
-faults s j e =
-    subst (Numbered 8) e (then-numbered 8 (stored s) _ (stored-numbered 8 (omega arith) s) (λ x s₁. check-numbered 8 _ 8 _ (omega arith, omega arith) tt))
+faults alias s j e =
+    subst (Numbered 8) e (then-numbered 8 (stored alias s) _ (stored-numbered alias 8 (omega arith) s) (λ x s₁. check-numbered 8 _ 8 _ (omega arith, omega arith) tt))

@@ -1,5 +1,6 @@
 -- A stored record as bytes: document 01, 'A stored record', and of 'Refusals' what its writer can cause (1 to 8). A section reads
--- from the front of a list of bytes and gives its value with the bytes after it, or the first fault. Assumes nothing.
+-- from the front of a list of bytes and gives its value with the bytes after it, or the first fault. A record is read by what serials count
+-- as in a group (`alias`; document 02, [2]): `itself` where no place has a second serial. Assumes nothing.
 use mathlib.Core.Bool.{Bool, true, false, not, cond, _||_}
 use mathlib.Core.List.{List, [], _∷_, _++_}
 use Prim.Native.Nat.{ℕ, zero, suc, _+_, _*_, _/_, _%_}
@@ -9,6 +10,7 @@ use Rattle.places.specs.Sets.{Places, nothing, with}
 use Rattle.histories.specs.declared.Kind.{Kind}
 use Rattle.histories.specs.declared.Kind.the-variants.{Full, Short}
 use Rattle.rosters.specs.Rosters.{placeOf, holds}
+use Rattle.rosters.specs.Seconds.{standsFor}
 
 pub data Parsed (A : Type 0) : Type 0 where
   got : A → List ℕ → Parsed A
@@ -59,6 +61,13 @@ rosterSerials (suc n) seen s = then (serial s) (λ x s₁. check (not (holds x s
 unfoldable pub rosterSection : List ℕ → Parsed (List ℕ)
 rosterSection s = then (byte s) (λ n s₁. check (leb 1 n) 3 (check (leb n 128) 3 (rosterSerials n [] s₁)))
 
+-- an own or a mourned serial on the record's roster: whether what it stands for is there, and its place
+abbrev pub isOn : (ℕ → ℕ) → List ℕ → ℕ → Bool
+isOn alias r x = holds (standsFor alias r x) r
+
+abbrev pub placeOn : (ℕ → ℕ) → List ℕ → ℕ → ℕ
+placeOn alias r x = placeOf (standsFor alias r x) r
+
 -- a record as far as the roster's end, its own serial as a place of the roster
 pub record Head : Type 0 where
   pub kind : Kind
@@ -66,25 +75,25 @@ pub record Head : Type 0 where
   pub roster : List ℕ
 
 -- the own serial is looked up when the roster has been read (6)
-unfoldable pub headSection : List ℕ → Parsed Head
-headSection s =
+unfoldable pub headSection : (ℕ → ℕ) → List ℕ → Parsed Head
+headSection alias s =
     then (kindSection s) (λ k s₁.
     then (serial s₁) (λ own s₂.
     then (rosterSection s₂) (λ r s₃.
-    check (holds own r) 6 (got (record { kind = k; own = placeOf own r; roster = r }) s₃))))
+    check (isOn alias r own) 6 (got (record { kind = k; own = placeOn alias r own; roster = r }) s₃))))
 
 -- m serials of the roster (6), at rising places from `from` on (7), which join the set M
-unfoldable pub mournedSerials : ℕ → List ℕ → ℕ → Places → List ℕ → Parsed Places
-mournedSerials zero r from M s = got M s
-mournedSerials (suc m) r from M s =
+unfoldable pub mournedSerials : (ℕ → ℕ) → ℕ → List ℕ → ℕ → Places → List ℕ → Parsed Places
+mournedSerials alias zero r from M s = got M s
+mournedSerials alias (suc m) r from M s =
     then (serial s) (λ x s₁.
-    check (holds x r) 6
-    (check (leb from (placeOf x r)) 7
-    (mournedSerials m r (suc (placeOf x r)) (with (placeOf x r) M) s₁)))
+    check (isOn alias r x) 6
+    (check (leb from (placeOn alias r x)) 7
+    (mournedSerials alias m r (suc (placeOn alias r x)) (with (placeOn alias r x) M) s₁)))
 
 -- mourned: a count of at most the roster's (3), then that many serials
-unfoldable pub mournedSection : List ℕ → List ℕ → Parsed Places
-mournedSection r s = then (byte s) (λ m s₁. check (leb m (length r)) 3 (mournedSerials m r 0 nothing s₁))
+unfoldable pub mournedSection : (ℕ → ℕ) → List ℕ → List ℕ → Parsed Places
+mournedSection alias r s = then (byte s) (λ m s₁. check (leb m (length r)) 3 (mournedSerials alias m r 0 nothing s₁))
 
 -- ---- a whole record, its serials as places
 
@@ -94,17 +103,17 @@ pub record Stored : Type 0 where
   pub roster : List ℕ
   pub mourned : Places
 
-unfoldable pub stored : List ℕ → Parsed Stored
-stored s =
-    then (headSection s) (λ h s₁.
-    then (mournedSection (h .roster) s₁) (λ M s₂.
+unfoldable pub stored : (ℕ → ℕ) → List ℕ → Parsed Stored
+stored alias s =
+    then (headSection alias s) (λ h s₁.
+    then (mournedSection alias (h .roster) s₁) (λ M s₂.
     got (record { kind = h .kind; own = h .own; roster = h .roster; mourned = M }) s₂))
 
 -- a lone record: nothing follows it (8)
-unfoldable pub lone : List ℕ → Parsed Stored
-lone s = then (stored s) (λ x s₁. check (eqb (length s₁) 0) 8 (got x s₁))
+unfoldable pub lone : (ℕ → ℕ) → List ℕ → Parsed Stored
+lone alias s = then (stored alias s) (λ x s₁. check (eqb (length s₁) 0) 8 (got x s₁))
 
--- ---- the bytes of a record
+-- ---- the bytes of a record: own and mourned are first serials, whichever were read
 
 unfoldable pub kindByte : Kind → ℕ
 kindByte Full = 1

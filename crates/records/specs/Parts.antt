@@ -9,7 +9,7 @@ use lib.Dec.{eqb, ltb}
 use Rattle.places.specs.Sets.{Places}
 use Rattle.places.specs.PlaceSets.{has, Words}
 use Rattle.histories.specs.declared.Kind.{Kind}
-use Rattle.rosters.specs.Rosters.{placeOf, holds, firstRepeat, firstFault}
+use Rattle.rosters.specs.Rosters.{firstRepeat, firstFault}
 use Rattle.records.specs.declared.Owner.{Owner}
 use Rattle.records.specs.declared.Owner.the-variants as O
 use Rattle.records.specs.declared.Top.{Top}
@@ -19,23 +19,23 @@ use Rattle.records.specs.declared.Mourned.{Mourned}
 use Rattle.records.specs.declared.Mourned.the-variants as M
 use Rattle.records.specs.declared.Tail.{Tail}
 use Rattle.records.specs.declared.Tail.the-variants as T
-use Rattle.records.specs.Layout.{Parsed, got, refused, then, check, wordAt, serial, rosterSerials, rosterSection, Head, Stored, layout}
+use Rattle.records.specs.Layout.{Parsed, got, refused, then, check, wordAt, serial, rosterSerials, rosterSection, isOn, placeOn, Head, Stored, layout}
 
 -- ---- the head, by what was read before
 
 -- from the roster on, where the own serial is known
-unfoldable pub rosterAfter : Kind → ℕ → List ℕ → Parsed Head
-rosterAfter k own s =
-    then (rosterSection s) (λ r s₁. check (holds own r) 6 (got (record { kind = k; own = placeOf own r; roster = r }) s₁))
+unfoldable pub rosterAfter : (ℕ → ℕ) → Kind → ℕ → List ℕ → Parsed Head
+rosterAfter alias k own s =
+    then (rosterSection s) (λ r s₁. check (isOn alias r own) 6 (got (record { kind = k; own = placeOn alias r own; roster = r }) s₁))
 
 -- from the own serial on
-unfoldable pub ownAfter : Kind → List ℕ → Parsed Head
-ownAfter k s = then (serial s) (λ own s₁. rosterAfter k own s₁)
+unfoldable pub ownAfter : (ℕ → ℕ) → Kind → List ℕ → Parsed Head
+ownAfter alias k s = then (serial s) (λ own s₁. rosterAfter alias k own s₁)
 
 -- the head by its first two sections, and the bytes after them
-unfoldable pub ownerOf : Owner → List ℕ → Parsed Head
-ownerOf (O.Of k own) s = rosterAfter k (own .0) s
-ownerOf (O.Refused j) s = refused j
+unfoldable pub ownerOf : (ℕ → ℕ) → Owner → List ℕ → Parsed Head
+ownerOf alias (O.Of k own) s = rosterAfter alias k (own .0) s
+ownerOf alias (O.Refused j) s = refused j
 
 abbrev pub OwnerIn : Owner → ℕ → ℕ → Type 0
 OwnerIn (O.Of k own) end all = end ≤ all
@@ -52,8 +52,9 @@ unfoldable pub rosterFault : ℕ → List ℕ → List ℕ → ℕ
 rosterFault n seen s = cond (eqb (firstFault seen s) 0) (cond (ltb (length s) n) 1 0) (firstFault seen s)
 
 -- the head of a record whose roster r, of n serials, stands at a position: the own serial is looked up on it
-unfoldable pub headOn : Kind → ℕ → ℕ → ℕ → List ℕ → Heading
-headOn k own at n r = cond (holds own r) (H.Found (record { kind = k; own = record { 0 = placeOf own r }; roster = at; count = n })) (H.Refused 6)
+unfoldable pub headOn : (ℕ → ℕ) → Kind → ℕ → ℕ → ℕ → List ℕ → Heading
+headOn alias k own at n r =
+    cond (isOn alias r own) (H.Found (record { kind = k; own = record { 0 = placeOn alias r own }; roster = at; count = n })) (H.Refused 6)
 
 -- what a head that was found says of the bytes; its roster stands at the front of the list
 unfoldable pub headOf : Heading → List ℕ → List ℕ → Parsed Head

@@ -25,11 +25,11 @@ readingOf all at (got x rest) =
 readingOf all at (refused j) = R.Refused j
 
 -- a record that starts at a position; a position past the end is bytes that end early
-unfoldable pub reading : List ℕ → ℕ → Reading
-reading b at = readingOf (length b) at (stored (drop at b))
+unfoldable pub reading : (ℕ → ℕ) → List ℕ → ℕ → Reading
+reading alias b at = readingOf (length b) at (stored alias (drop at b))
 
-unfoldable pub readingLone : List ℕ → Reading
-readingLone b = readingOf (length b) 0 (lone b)
+unfoldable pub readingLone : (ℕ → ℕ) → List ℕ → Reading
+readingLone alias b = readingOf (length b) 0 (lone alias b)
 
 -- ---- a roster in bytes, and a list
 

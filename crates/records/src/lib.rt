@@ -6,7 +6,9 @@ ghost use Prim.Native.Nat.{ℕ, _+_, _*_, _≤_, _<_};
 ghost use lib.Dec.{eqb};
 ghost use lib.ListN.{length, getD, take, drop};
 ghost use Rattle.places.specs.Sets.{nothing};
-ghost use Rattle.rosters.specs.Rosters.{placeOf, firstRepeat};
+ghost use Rattle.places.specs.PlaceSets.{found};
+ghost use Rattle.rosters.specs.Rosters.{placeFrom, firstRepeat};
+ghost use Rattle.rosters.specs.Seconds.{countsAs, standsFor};
 ghost use Rattle.records.specs.Layout.{wordAt, rosterSerials, headSection, mournedSerials, mournedSection};
 ghost use Rattle.records.specs.Records.{reading, readingLone, serials, sameList, rosterThere, rosterIs, copiable, copied};
 ghost use Rattle.records.specs.Parts.{rosterAfter, ownAfter, ownerOf, OwnerIn, coded, rosterFault, headOn, headOf, Rostered, HeadIn, Like, mournedOf, MournedIn, tailOf, TailIn, alike, alikeFrom};
@@ -14,6 +16,7 @@ use histories::Kind;
 use places::Found;
 use places::Place;
 use places::PlaceSet;
+use rosters::Finding;
 use rosters::Serial;
 
 // A record that was read: its serials are places, and its roster stays in the lent bytes, `count` serials from position
@@ -143,12 +146,31 @@ fn roster_fault(list: &[u32], m: usize, count: usize) -> u8
     0
 }
 
-// The head of a record whose roster, the first n of a list, stands at a position: its own serial is looked up there.
-fn on_roster(kind: Kind, own: Serial, roster: usize, list: &[u32], n: usize) -> Heading
-    requires { ⌜ n ≤ length (now list) ⌝ }
-    ensures { λ r. ⌜ r ≡ headOn kind (own .0) roster n (take n (now (list .entry))) ⌝ }
+// The place of an own or a mourned serial on a record's roster, looked for from a place on first: as a first serial or as a second one.
+fn locate(roster: &[u32], from: usize, firsts: &[u32], seconds: &[u32], serial: Serial) -> Found
+    ensures { λ r. ⌜ r ≡ found (length (now (roster .entry))) (placeFrom from (standsFor (countsAs (now (firsts .entry)) (now (seconds .entry))) (now (roster .entry)) (serial .0)) (now (roster .entry))) ⌝ }
 {
-    let Found::At(place) = rosters::find(&list[..n], own) else {
+    match rosters::look_up(roster, from, firsts, seconds, serial) {
+        Finding::First(place) => Found::At(place),
+        Finding::Second(place) => Found::At(place),
+        Finding::Nothing => Found::Nothing,
+    }
+}
+
+// The head of a record whose roster, the first n of a list, stands at a position: its own serial is looked up there.
+fn on_roster(
+    kind: Kind,
+    own: Serial,
+    roster: usize,
+    list: &[u32],
+    n: usize,
+    firsts: &[u32],
+    seconds: &[u32],
+) -> Heading
+    requires { ⌜ n ≤ length (now list) ⌝ }
+    ensures { λ r. ⌜ r ≡ headOn (countsAs (now (firsts .entry)) (now (seconds .entry))) kind (own .0) roster n (take n (now (list .entry))) ⌝ }
+{
+    let Found::At(place) = locate(&list[..n], 0, firsts, seconds, own) else {
         return Heading::Refused(6);
     };
     Heading::Found(Top {
@@ -172,9 +194,17 @@ fn read_roster(bytes: &[u8], at: usize, count: usize, list: &mut [u32; 128]) -> 
 }
 
 // The roster's section at a position, with the own serial looked up on it.
-fn head_roster(bytes: &[u8], at: usize, kind: Kind, own: Serial, list: &mut [u32; 128]) -> Heading
+fn head_roster(
+    bytes: &[u8],
+    at: usize,
+    kind: Kind,
+    own: Serial,
+    list: &mut [u32; 128],
+    firsts: &[u32],
+    seconds: &[u32],
+) -> Heading
     requires { ⌜ at ≤ length (now bytes) ⌝ }
-    ensures { λ r. ⌜ rosterAfter kind (own .0) (drop at (now (bytes .entry))) ≡ headOf r (now (bytes .entry)) (now (list .exit)) ⌝ }
+    ensures { λ r. ⌜ rosterAfter (countsAs (now (firsts .entry)) (now (seconds .entry))) kind (own .0) (drop at (now (bytes .entry))) ≡ headOf r (now (bytes .entry)) (now (list .exit)) ⌝ }
     ensures { λ r. ⌜ HeadIn r (now (bytes .entry)) (at + 1) (now (list .exit)) ⌝ }
 {
     if bytes.len() <= at {
@@ -191,13 +221,13 @@ fn head_roster(bytes: &[u8], at: usize, kind: Kind, own: Serial, list: &mut [u32
     if fault != 0 {
         return Heading::Refused(fault);
     }
-    on_roster(kind, own, at + 1, list, n)
+    on_roster(kind, own, at + 1, list, n, firsts, seconds)
 }
 
 // The own serial at a position, of a record whose kind is known.
 fn read_own(bytes: &[u8], at: usize, kind: Kind) -> Owner
     requires { ⌜ at ≤ length (now bytes) ⌝ }
-    ensures { λ r. ⌜ ownAfter kind (drop at (now (bytes .entry))) ≡ ownerOf r (drop (at + 4) (now (bytes .entry))) ⌝ }
+    ensures { λ r. ⌜ ((alias : ℕ → ℕ) → ownAfter alias kind (drop at (now (bytes .entry))) ≡ ownerOf alias r (drop (at + 4) (now (bytes .entry)))) ⌝ }
     ensures { λ r. ⌜ OwnerIn r (at + 4) (length (now (bytes .entry))) ⌝ }
 {
     if bytes.len() - at < 4 {
@@ -212,7 +242,7 @@ fn read_own(bytes: &[u8], at: usize, kind: Kind) -> Owner
 
 // The kind and the own serial of the record that starts at a position: its first five bytes.
 fn read_owner(bytes: &[u8], at: usize) -> Owner
-    ensures { λ r. ⌜ headSection (drop at (now (bytes .entry))) ≡ ownerOf r (drop (at + 5) (now (bytes .entry))) ⌝ }
+    ensures { λ r. ⌜ ((alias : ℕ → ℕ) → headSection alias (drop at (now (bytes .entry))) ≡ ownerOf alias r (drop (at + 5) (now (bytes .entry)))) ⌝ }
     ensures { λ r. ⌜ OwnerIn r (at + 5) (length (now (bytes .entry))) ⌝ }
 {
     if bytes.len() <= at {
@@ -227,13 +257,19 @@ fn read_owner(bytes: &[u8], at: usize) -> Owner
 }
 
 // Reads the record that starts at a position as far as its roster's end; the roster's serials go into the front of the list.
-fn read_head(bytes: &[u8], at: usize, list: &mut [u32; 128]) -> Heading
-    ensures { λ r. ⌜ headSection (drop at (now (bytes .entry))) ≡ headOf r (now (bytes .entry)) (now (list .exit)) ⌝ }
+fn read_head(
+    bytes: &[u8],
+    at: usize,
+    list: &mut [u32; 128],
+    firsts: &[u32],
+    seconds: &[u32],
+) -> Heading
+    ensures { λ r. ⌜ headSection (countsAs (now (firsts .entry)) (now (seconds .entry))) (drop at (now (bytes .entry))) ≡ headOf r (now (bytes .entry)) (now (list .exit)) ⌝ }
     ensures { λ r. ⌜ HeadIn r (now (bytes .entry)) (at + 6) (now (list .exit)) ⌝ }
 {
     match read_owner(bytes, at) {
         Owner::Refused(fault) => Heading::Refused(fault),
-        Owner::Of(kind, own) => head_roster(bytes, at + 5, kind, own, list),
+        Owner::Of(kind, own) => head_roster(bytes, at + 5, kind, own, list, firsts, seconds),
     }
 }
 
@@ -241,12 +277,19 @@ fn read_head(bytes: &[u8], at: usize, list: &mut [u32; 128]) -> Heading
 
 // The m serials from a position on as places of the roster, which have to rise. They are looked for along the roster, each
 // from the place after the one before it.
-fn read_mourned(bytes: &[u8], at: usize, m: usize, roster: &[u32]) -> Mourned
+fn read_mourned(
+    bytes: &[u8],
+    at: usize,
+    m: usize,
+    roster: &[u32],
+    firsts: &[u32],
+    seconds: &[u32],
+) -> Mourned
     requires { ⌜ at ≤ length (now bytes) ⌝ }
     requires { ⌜ m ≤ 128 ⌝ }
     requires { ⌜ length (now roster) ≤ 128 ⌝ }
     requires { ⌜ firstRepeat [] (now roster) ≡ length (now roster) ⌝ }
-    ensures { λ r. ⌜ mournedSerials m (now (roster .entry)) 0 nothing (drop at (now (bytes .entry))) ≡ mournedOf r (drop (at + m * 4) (now (bytes .entry))) ⌝ }
+    ensures { λ r. ⌜ mournedSerials (countsAs (now (firsts .entry)) (now (seconds .entry))) m (now (roster .entry)) 0 nothing (drop at (now (bytes .entry))) ≡ mournedOf r (drop (at + m * 4) (now (bytes .entry))) ⌝ }
     ensures { λ r. ⌜ MournedIn r (at + m * 4) (length (now (bytes .entry))) ⌝ }
 {
     let mut set = places::empty();
@@ -261,7 +304,7 @@ fn read_mourned(bytes: &[u8], at: usize, m: usize, roster: &[u32]) -> Mourned
         if x.0 == 0 {
             return Mourned::Refused(4);
         }
-        let Found::At(place) = rosters::find_from(roster, from, x) else {
+        let Found::At(place) = locate(roster, from, firsts, seconds, x) else {
             return Mourned::Refused(6);
         };
         if place.0 < from {
@@ -275,11 +318,11 @@ fn read_mourned(bytes: &[u8], at: usize, m: usize, roster: &[u32]) -> Mourned
 }
 
 // The mourned section at a position, for a roster.
-fn read_tail(bytes: &[u8], at: usize, roster: &[u32]) -> Tail
+fn read_tail(bytes: &[u8], at: usize, roster: &[u32], firsts: &[u32], seconds: &[u32]) -> Tail
     requires { ⌜ at ≤ length (now bytes) ⌝ }
     requires { ⌜ length (now roster) ≤ 128 ⌝ }
     requires { ⌜ firstRepeat [] (now roster) ≡ length (now roster) ⌝ }
-    ensures { λ r. ⌜ mournedSection (now (roster .entry)) (drop at (now (bytes .entry))) ≡ tailOf r (now (bytes .entry)) ⌝ }
+    ensures { λ r. ⌜ mournedSection (countsAs (now (firsts .entry)) (now (seconds .entry))) (now (roster .entry)) (drop at (now (bytes .entry))) ≡ tailOf r (now (bytes .entry)) ⌝ }
     ensures { λ r. ⌜ TailIn r (length (now (bytes .entry))) ⌝ }
 {
     if bytes.len() <= at {
@@ -289,7 +332,7 @@ fn read_tail(bytes: &[u8], at: usize, roster: &[u32]) -> Tail
     if roster.len() < m {
         return Tail::Refused(3);
     }
-    match read_mourned(bytes, at + 1, m, roster) {
+    match read_mourned(bytes, at + 1, m, roster, firsts, seconds) {
         Mourned::Refused(fault) => Tail::Refused(fault),
         Mourned::Set(set) => Tail::End(set, at + 1 + m * 4),
     }
@@ -298,10 +341,17 @@ fn read_tail(bytes: &[u8], at: usize, roster: &[u32]) -> Tail
 // ---- reading
 
 // The record that starts at a position, its head read and its roster at the front of the list.
-fn read_rest(bytes: &[u8], at: usize, head: Heading, list: &[u32]) -> Reading
-    requires { ⌜ headSection (drop at (now bytes)) ≡ headOf head (now bytes) (now list) ⌝ }
+fn read_rest(
+    bytes: &[u8],
+    at: usize,
+    head: Heading,
+    list: &[u32],
+    firsts: &[u32],
+    seconds: &[u32],
+) -> Reading
+    requires { ⌜ headSection (countsAs (now firsts) (now seconds)) (drop at (now bytes)) ≡ headOf head (now bytes) (now list) ⌝ }
     requires { ⌜ HeadIn head (now bytes) (at + 6) (now list) ⌝ }
-    ensures { λ r. ⌜ r ≡ reading (now (bytes .entry)) at ⌝ }
+    ensures { λ r. ⌜ r ≡ reading (countsAs (now (firsts .entry)) (now (seconds .entry))) (now (bytes .entry)) at ⌝ }
 {
     match head {
         Heading::Refused(fault) => Reading::Refused(fault),
@@ -310,7 +360,7 @@ fn read_rest(bytes: &[u8], at: usize, head: Heading, list: &[u32]) -> Reading
             let own = top.own;
             let roster = top.roster;
             let count = top.count;
-            match read_tail(bytes, roster + count * 4, &list[..count]) {
+            match read_tail(bytes, roster + count * 4, &list[..count], firsts, seconds) {
                 Tail::Refused(fault) => Reading::Refused(fault),
                 Tail::End(mourned, next) => Reading::Read(Record {
                     kind,
@@ -326,19 +376,26 @@ fn read_rest(bytes: &[u8], at: usize, head: Heading, list: &[u32]) -> Reading
 }
 
 // The record that starts at a position; its roster goes into the front of the list.
-fn read_into(bytes: &[u8], at: usize, list: &mut [u32; 128]) -> Reading
-    ensures { λ r. ⌜ r ≡ reading (now (bytes .entry)) at ⌝ }
+fn read_into(
+    bytes: &[u8],
+    at: usize,
+    list: &mut [u32; 128],
+    firsts: &[u32],
+    seconds: &[u32],
+) -> Reading
+    ensures { λ r. ⌜ r ≡ reading (countsAs (now (firsts .entry)) (now (seconds .entry))) (now (bytes .entry)) at ⌝ }
 {
-    let head = read_head(bytes, at, list);
-    read_rest(bytes, at, head, list)
+    let head = read_head(bytes, at, list, firsts, seconds);
+    read_rest(bytes, at, head, list, firsts, seconds)
 }
 
-// Reads the record that starts at a position; more may follow it.
-pub fn read(bytes: &[u8], at: usize) -> Reading
-    ensures { λ r. ⌜ r ≡ reading (now (bytes .entry)) at ⌝ }
+// Reads the record that starts at a position; more may follow it. Its own and mourned serials may be second ones of a group with these
+// first and second serials, place by place, 0 for no second one; both lists may be empty.
+pub fn read(bytes: &[u8], at: usize, firsts: &[u32], seconds: &[u32]) -> Reading
+    ensures { λ r. ⌜ r ≡ reading (countsAs (now (firsts .entry)) (now (seconds .entry))) (now (bytes .entry)) at ⌝ }
 {
     let mut list = [0u32; 128];
-    read_into(bytes, at, &mut list)
+    read_into(bytes, at, &mut list, firsts, seconds)
 }
 
 // Whether the roster's section at a position is of this list, which an order of its places shows to be without fault.
@@ -361,27 +418,28 @@ fn is_like(bytes: &[u8], at: usize, list: &[u32], order: &[u8]) -> bool
     orders::rises(list, order)
 }
 
-// The same as `read`, and cheap where the record's roster is this list and the list's serials rise in this order.
-pub fn read_like(bytes: &[u8], at: usize, list: &[u32], order: &[u8]) -> Reading
-    ensures { λ r. ⌜ r ≡ reading (now (bytes .entry)) at ⌝ }
+// The same as `read`, and cheap where the record's roster is the group's and its serials rise in this order.
+pub fn read_like(bytes: &[u8], at: usize, firsts: &[u32], seconds: &[u32], order: &[u8]) -> Reading
+    ensures { λ r. ⌜ r ≡ reading (countsAs (now (firsts .entry)) (now (seconds .entry))) (now (bytes .entry)) at ⌝ }
 {
     match read_owner(bytes, at) {
         Owner::Refused(fault) => Reading::Refused(fault),
         Owner::Of(kind, own) => {
-            if !is_like(bytes, at + 5, list, order) {
-                return read(bytes, at);
+            if !is_like(bytes, at + 5, firsts, order) {
+                return read(bytes, at, firsts, seconds);
             }
-            let head = on_roster(kind, own, at + 6, list, list.len());
-            read_rest(bytes, at, head, list)
+            let n = firsts.len();
+            let head = on_roster(kind, own, at + 6, firsts, n, firsts, seconds);
+            read_rest(bytes, at, head, firsts, firsts, seconds)
         }
     }
 }
 
-// Reads a lone record: bytes after it are refusal 8.
-pub fn read_lone(bytes: &[u8]) -> Reading
-    ensures { λ r. ⌜ r ≡ readingLone (now (bytes .entry)) ⌝ }
+// Reads a lone record, as `read`: bytes after it are refusal 8.
+pub fn read_lone(bytes: &[u8], firsts: &[u32], seconds: &[u32]) -> Reading
+    ensures { λ r. ⌜ r ≡ readingLone (countsAs (now (firsts .entry)) (now (seconds .entry))) (now (bytes .entry)) ⌝ }
 {
-    match read(bytes, 0) {
+    match read(bytes, 0, firsts, seconds) {
         Reading::Refused(fault) => Reading::Refused(fault),
         Reading::Read(first) => {
             if first.next != bytes.len() {

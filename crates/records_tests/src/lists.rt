@@ -1,7 +1,7 @@
 // Lists of serials: what a recovery or a day opened with one meets, and where a serial stands.
 ghost use Prim.Native.Nat.{_≤_};
 use crate::say;
-use places::Found;
+use rosters::Finding;
 use rosters::Serial;
 
 // The list x, 2x, 3x and so on.
@@ -15,13 +15,21 @@ pub fn fill(list: &mut [u32], x: u32) {
     }
 }
 
-// 1 where the place was found, 0 elsewhere.
-fn one_if(found: Found, place: usize) -> usize
+// Where a serial stands in a list, looked for from a place on first, in a group that has no second serials.
+fn look_up(list: &[u32], from: usize, x: u32) -> Finding {
+    let zero = [0u32; 1];
+    let none = &zero[..0];
+    rosters::look_up(list, from, none, none, Serial(x))
+}
+
+// 1 where the place was found by its first serial, 0 elsewhere.
+fn one_if(found: Finding, place: usize) -> usize
     ensures { λ r. ⌜ r ≤ 1 ⌝ }
 {
     match found {
-        Found::Nothing => 0,
-        Found::At(at) => {
+        Finding::Nothing => 0,
+        Finding::Second(_) => 0,
+        Finding::First(at) => {
             if at.0 == place {
                 return 1;
             }
@@ -35,7 +43,7 @@ pub fn at_home(list: &[u32]) -> usize {
     let mut n = 0;
     let mut i = 0;
     while i < list.len() {
-        let one = one_if(rosters::find(list, Serial(list[i])), i);
+        let one = one_if(look_up(list, 0, list[i]), i);
         n += one;
         i += 1;
     }
@@ -52,11 +60,11 @@ fn faulty(name: &[u8], list: &[u32]) {
 }
 
 fn sought(name: &[u8], list: &[u32], x: u32) {
-    say::found(name, rosters::find(list, Serial(x)));
+    say::found(name, look_up(list, 0, x));
 }
 
 fn ahead(name: &[u8], list: &[u32], from: usize, x: u32) {
-    say::found(name, rosters::find_from(list, from, Serial(x)));
+    say::found(name, look_up(list, from, x));
 }
 
 // The faults 3, 4, 5, each over the whole list.

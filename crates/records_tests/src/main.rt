@@ -4,6 +4,7 @@ mod lists;
 mod reading;
 mod say;
 mod streams;
+mod swaps;
 mod writing;
 
 fn main() {
@@ -38,4 +39,12 @@ fn main() {
     beside::counted();
     beside::copied();
     beside::not_copied();
+    say::text(b"-- Second serials beside a roster\n");
+    swaps::beside();
+    swaps::other_groups();
+    swaps::positions();
+    swaps::ordered();
+    swaps::longest();
+    swaps::on_its_roster();
+    swaps::on_other_rosters();
 }

@@ -1,9 +1,11 @@
 // Reading records: the cases stand in the file stdin, one to a line, a name and the record's bytes in hexadecimal. Behind a
-// colon they are read as a stream's, behind a semicolon as a lone record's; a line with neither is a heading.
+// colon they are read as a stream's, behind a semicolon as a lone record's, behind an equals sign as a stream's for a group
+// with second serials; a line with none of these is a heading.
 ghost use Prim.Native.Nat.{_≤_};
 ghost use lib.ListN.{length};
 ghost use Rattle.io.specs.Counts.{Counts};
 use crate::say;
+use records::Reading;
 
 // The value of a hexadecimal digit, or 16.
 fn digit(c: u8) -> u8
@@ -92,28 +94,54 @@ fn find(bytes: &[u8], from: usize, x: u8) -> usize
     i
 }
 
+// Reads one of a stream for a group that has no second serials.
+pub fn read(bytes: &[u8], at: usize) -> Reading {
+    let list = [0u32; 1];
+    let none = &list[..0];
+    records::read(bytes, at, none, none)
+}
+
+// Reads a lone record for such a group.
+pub fn read_lone(bytes: &[u8]) -> Reading {
+    let list = [0u32; 1];
+    let none = &list[..0];
+    records::read_lone(bytes, none, none)
+}
+
 // The record that a text spells, read as one of a stream.
 fn stream(name: &[u8], text: &[u8]) {
     let mut bytes = [0u8; 64];
     let n = decode(text, &mut bytes);
-    say::reading(name, records::read(&bytes[..n], 0));
+    say::reading(name, read(&bytes[..n], 0));
 }
 
 // The same, read as a lone record.
 fn lone(name: &[u8], text: &[u8]) {
     let mut bytes = [0u8; 64];
     let n = decode(text, &mut bytes);
-    say::reading(name, records::read_lone(&bytes[..n]));
+    say::reading(name, read_lone(&bytes[..n]));
+}
+
+// The same, read as one of a stream for a group of 1 and 2 whose second serials are 8 and 9.
+fn swapped(name: &[u8], text: &[u8]) {
+    let firsts = [1u32, 2];
+    let seconds = [8u32, 9];
+    let mut bytes = [0u8; 64];
+    let n = decode(text, &mut bytes);
+    say::reading(name, records::read(&bytes[..n], 0, &firsts, &seconds));
 }
 
 // One line: a case or a heading.
 fn line(words: &[u8]) {
     let colon = find(words, 0, b':');
     let semicolon = find(words, 0, b';');
+    let equals = find(words, 0, b'=');
     if colon < words.len() {
         stream(&words[..colon], &words[colon..]);
     } else if semicolon < words.len() {
         lone(&words[..semicolon], &words[semicolon..]);
+    } else if equals < words.len() {
+        swapped(&words[..equals], &words[equals..]);
     } else {
         say::text(words);
         say::text(b"\n");
@@ -136,15 +164,15 @@ pub fn table(input: &[u8]) {
 // A position at the end, past it, and the largest there is.
 pub fn positions() {
     let bytes = b"\x01\x00\x00\x00\x07\x01\x00\x00\x00\x07\x00";
-    say::reading(b"at position 0", records::read(bytes, 0));
-    say::reading(b"at the end", records::read(bytes, 11));
-    say::reading(b"past the end", records::read(bytes, 12));
+    say::reading(b"at position 0", read(bytes, 0));
+    say::reading(b"at the end", read(bytes, 11));
+    say::reading(b"past the end", read(bytes, 12));
     say::reading(
         b"at the largest position",
-        records::read(bytes, 18446744073709551615),
+        read(bytes, 18446744073709551615),
     );
     say::reading(
         b"from position 2",
-        records::read(b"\xff\xff\x01\x00\x00\x00\x07\x01\x00\x00\x00\x07\x00", 2),
+        read(b"\xff\xff\x01\x00\x00\x00\x07\x01\x00\x00\x00\x07\x00", 2),
     );
 }

@@ -1,11 +1,11 @@
 // One printed line for each case: its name, and the answer that it got.
 use histories::Kind;
 use libc::STDOUT_FILENO;
-use places::Found;
 use places::Place;
 use places::PlaceSet;
 use records::Reading;
 use records::Writing;
+use rosters::Finding;
 use rosters::Listed;
 
 pub fn text(words: &[u8]) {
@@ -76,14 +76,19 @@ pub fn listed(name: &[u8], got: Listed) {
     }
 }
 
-pub fn found(name: &[u8], got: Found) {
+pub fn found(name: &[u8], got: Finding) {
     title(name);
     match got {
-        Found::Nothing => text(b"nothing\n"),
-        Found::At(place) => {
+        Finding::Nothing => text(b"nothing\n"),
+        Finding::First(place) => {
             text(b"place ");
             number(place.0);
             text(b"\n");
+        }
+        Finding::Second(place) => {
+            text(b"place ");
+            number(place.0);
+            text(b", its second serial\n");
         }
     }
 }

@@ -1,6 +1,7 @@
 // Whole records in longer bytes: document 01's listing, every cut of a record, and records of 128 members and of 33.
 ghost use Prim.Native.Nat.{_≤_};
 use crate::lists;
+use crate::reading;
 use crate::say;
 use histories::Kind;
 use places::Place;
@@ -26,7 +27,7 @@ fn cuts(bytes: &[u8], fault: u8) -> usize {
     let mut n = 0;
     let mut k = 0;
     while k < bytes.len() {
-        let one = one_if(records::read(&bytes[..k], 0), fault);
+        let one = one_if(reading::read(&bytes[..k], 0), fault);
         n += one;
         k += 1;
     }
@@ -48,21 +49,21 @@ pub fn all_cuts() {
 pub fn listing() {
     let bytes =
         b"\x02\x00\x00\x00\x65\x04\x00\x00\x00\x65\x00\x00\x00\x66\x00\x00\x00\x67\x00\x00\x00\x68\x00\x02\x00\x00\x00\x68\x04\x00\x00\x00\x65\x00\x00\x00\x66\x00\x00\x00\x67\x00\x00\x00\x68\x02\x00\x00\x00\x66\x00\x00\x00\x67";
-    let first = records::read(bytes, 0);
+    let first = reading::read(bytes, 0);
     say::reading(b"the listing's first", first);
     let Reading::Read(one) = first else {
         return;
     };
-    let second = records::read(bytes, one.next);
+    let second = reading::read(bytes, one.next);
     say::reading(b"the listing's second", second);
     let Reading::Read(two) = second else {
         return;
     };
-    say::reading(b"the listing's end", records::read(bytes, two.next));
+    say::reading(b"the listing's end", reading::read(bytes, two.next));
 }
 
 fn lone(name: &[u8], bytes: &[u8]) {
-    say::reading(name, records::read_lone(bytes));
+    say::reading(name, reading::read_lone(bytes));
 }
 
 // The 128 serials 65536, 2 x 65536 and so on: each at its place, and a record of them with all mourned, the longest there is.
@@ -94,7 +95,7 @@ fn longest_with(name: &[u8], roster: u8, mourned: u8) {
     out[5] = roster;
     out[518] = mourned;
     lone(name, &out);
-    say::reading(b"and as a stream's", records::read(&out, 0));
+    say::reading(b"and as a stream's", reading::read(&out, 0));
 }
 
 pub fn other_counts() {

@@ -1,5 +1,6 @@
 // Writing a record into a lent buffer: document 01's listing, second record, of 31 bytes.
 ghost use Prim.Native.Nat.{_≤_};
+use crate::reading;
 use crate::say;
 use histories::Kind;
 use places::Place;
@@ -53,7 +54,7 @@ fn write_for(name: &[u8], own: usize, roster: &[u32], out: &mut [u8; 40], at: us
 }
 
 fn read_at(name: &[u8], bytes: &[u8], at: usize) {
-    say::reading(name, records::read(bytes, at));
+    say::reading(name, reading::read(bytes, at));
 }
 
 // Laid from position 3 on, it is those bytes, and no other byte is touched.

@@ -13,6 +13,7 @@ use Rattle.rosters.specs.Rosters.{IsRoster}
 use Rattle.rosters.proofs.Laws.{listed-sound}
 use Rattle.records.specs.declared.Record.{Record}
 use Rattle.records.specs.declared.Reading.the-variants.{Read}
+use Rattle.rosters.specs.Seconds.{itself}
 use Rattle.records.specs.Layout.{Parsed, got, refused, Stored, stored, knownKind, kindOf, kindByte}
 use Rattle.records.specs.Records.{readingOf, reading, serials, rosterThere, copiable, copied}
 use Rattle.records.proofs.Layouts.{length-serials, stored-back}
@@ -24,23 +25,23 @@ use Rattle.recovery.specs.Contracts.{fresh, unopened, openedAs, opened}
 pub record ReadAt (b : List ℕ) (at : ℕ) (x : Record) : Type 0 where
   pub it : Stored
   pub rest : List ℕ
-  pub parsed : stored (drop at b) ≡ got it rest
+  pub parsed : stored itself (drop at b) ≡ got it rest
   pub is : x ≡ record { kind = it .kind; own = record { 0 = it .own }; roster = at + 6; count = length (it .roster); mourned = packed (it .mourned); next = length b - length rest }
 
-pub read-at : (b : List ℕ) (at : ℕ) (x : Record) → reading b at ≡ Read x → ReadAt b at x
+pub read-at : (b : List ℕ) (at : ℕ) (x : Record) → reading itself b at ≡ Read x → ReadAt b at x
 unfolding reading readingOf
-read-at b at x e = go (stored (drop at b)) refl e
+read-at b at x e = go (stored itself (drop at b)) refl e
   where
-    go : (p : Parsed Stored) → stored (drop at b) ≡ p → readingOf (length b) at p ≡ Read x → ReadAt b at x
+    go : (p : Parsed Stored) → stored itself (drop at b) ≡ p → readingOf (length b) at p ≡ Read x → ReadAt b at x
     go (got y rest) f g = record { it = y; rest = rest; parsed = f; is = let h : x ≡ record { kind = y .kind; own = record { 0 = y .own }; roster = at + 6; count = length (y .roster); mourned = packed (y .mourned); next = length b - length rest } = cc in h }
     go (refused j) f g = let z : _≡_ {A = ℕ} 0 1 = cc in absurd (omega arith)
 
-module _ (b : List ℕ) (at : ℕ) (x : Record) (e : reading b at ≡ Read x) where
+module _ (b : List ℕ) (at : ℕ) (x : Record) (e : reading itself b at ≡ Read x) where
   read : ReadAt b at x
   read = read-at b at x e
 
   sound : IsRoster (read .it .roster)
-  sound = stored-back (drop at b) (read .it) (read .rest) (read .parsed) .heading .sound
+  sound = stored-back itself (drop at b) (read .it) (read .rest) (read .parsed) .heading .sound
 
   count-is : x .count ≡ length (read .it .roster)
   count-is = ap (λ (y : Record). y .count) (read .is)
@@ -49,19 +50,19 @@ module _ (b : List ℕ) (at : ℕ) (x : Record) (e : reading b at ≡ Read x) wh
   count-few = omega (arith, count-is, sound .few)
 
   pub starts-inside : at < length b
-  starts-inside = omega (arith, roster-within b at (read .it) (read .rest) (read .parsed))
+  starts-inside = omega (arith, roster-within itself b at (read .it) (read .rest) (read .parsed))
 
   -- the record ends behind its start, within the bytes
   pub ends-inside : x .next ≤ length b
   ends-inside = omega (arith, ap (λ (y : Record). y .next) (read .is))
 
   roster-is : serials (x .count) (drop (x .roster) b) ≡ read .it .roster
-  roster-is = subst (λ (y : Record). serials (y .count) (drop (y .roster) b) ≡ read .it .roster) (sym (read .is)) (serials-read b at (read .it) (read .rest) (read .parsed))
+  roster-is = subst (λ (y : Record). serials (y .count) (drop (y .roster) b) ≡ read .it .roster) (sym (read .is)) (serials-read itself b at (read .it) (read .rest) (read .parsed))
 
   -- its kind byte stands at its start
   kind-is : getD b at 0 ≡ kindByte (x .kind)
   kind-is =
-      let h : getD (drop at b) 0 0 ≡ kindByte (read .it .kind) = ap (λ (l : List ℕ). getD l 0 0) (stored-back (drop at b) (read .it) (read .rest) (read .parsed) .heading .kind) in
+      let h : getD (drop at b) 0 0 ≡ kindByte (read .it .kind) = ap (λ (l : List ℕ). getD l 0 0) (stored-back itself (drop at b) (read .it) (read .rest) (read .parsed) .heading .kind) in
       let z : at + 0 ≡ at = omega arith in
       ap (λ (n : ℕ). getD b n 0) (sym z) ∙ sym (getD-drop at b 0 0) ∙ h ∙ ap (λ (y : Record). kindByte (y .kind)) (sym (read .is))
 
@@ -69,7 +70,7 @@ module _ (b : List ℕ) (at : ℕ) (x : Record) (e : reading b at ≡ Read x) wh
   copied-is : (list : List ℕ) → copied b (x .roster) (x .count) list ≡ serials (x .count) (drop (x .roster) b) ++ drop (x .count) list
   unfolding copied copiable rosterThere
   copied-is list =
-      let l : x .roster + x .count * 4 ≤ length b = omega (arith, count-is, ap (λ (y : Record). y .roster) (read .is), roster-within b at (read .it) (read .rest) (read .parsed)) in
+      let l : x .roster + x .count * 4 ≤ length b = omega (arith, count-is, ap (λ (y : Record). y .roster) (read .is), roster-within itself b at (read .it) (read .rest) (read .parsed)) in
       rw (le-leb (x .roster + x .count * 4) (length b) l, le-leb (x .count) 128 count-few)
 
   pub copied-long : (list after : List ℕ) → length list ≡ 128 → after ≡ copied b (x .roster) (x .count) list → length after ≡ 128
@@ -90,7 +91,7 @@ opened-roster Full s i = rw (listed-sound s .1 i)
 opened-roster Short s i = rw (listed-sound s .1 i)
 
 -- the recovery that the record opens
-pub opened-is : (b : List ℕ) (at : ℕ) (x : Record) → reading b at ≡ Read x → (list after : List ℕ) → after ≡ copied b (x .roster) (x .count) list
+pub opened-is : (b : List ℕ) (at : ℕ) (x : Record) → reading itself b at ≡ Read x → (list after : List ℕ) → after ≡ copied b (x .roster) (x .count) list
     → (o : Opened) → o ≡ opened (getD b at 0) (take (x .count) after) → o .recovery ≡ fresh (x .kind) (serials (x .count) (drop (x .roster) b))
 opened-is b at x e list after f o g =
     ap (λ (z : Opened). z .recovery) g

@@ -10,8 +10,9 @@ use lib.Dec.{eqb, leb}
 use borrow.Author.Tests.{leb-true, le-leb}
 use Rattle.places.specs.Sets.{Places, nothing, with}
 use Rattle.places.specs.PlaceSets.{packed}
-use Rattle.rosters.specs.Rosters.{placeOf, holds}
-use Rattle.records.specs.Layout.{Parsed, got, refused, then, check, byte, wordAt, serial, knownKind, kindOf, kindSection, rosterSerials, rosterSection, headSection, mournedSerials, mournedSection, Stored, stored}
+use Rattle.rosters.specs.Rosters.{holds}
+use Rattle.rosters.specs.Seconds.{itself}
+use Rattle.records.specs.Layout.{Parsed, got, refused, then, check, byte, wordAt, serial, knownKind, kindOf, kindSection, rosterSerials, rosterSection, isOn, placeOn, headSection, mournedSerials, mournedSection, Stored, stored}
 use Rattle.records.specs.declared.Reading.the-variants.{Read}
 use Rattle.records.specs.Records.{readingOf, reading}
 use Rattle.records.proofs.Layouts.{check-yes, head-back}
@@ -148,36 +149,36 @@ looks-roster : Looks 513 rosterSection
 unfolding rosterSection
 looks-roster = looks-then byte _ looks-byte (λ n. looks-check (leb 1 n) 3 (looks-few n 128 (looks-roster-serials n [])))
 
-looks-head : Looks 518 headSection
+looks-head : (alias : ℕ → ℕ) → Looks 518 (headSection alias)
 unfolding headSection
-looks-head =
-    looks-then kindSection _ looks-kind (λ k. looks-then serial _ looks-serial (λ own. looks-then rosterSection _ looks-roster (λ r. looks-check (holds own r) 6 (looks-got _))))
+looks-head alias =
+    looks-then kindSection _ looks-kind (λ k. looks-then serial _ looks-serial (λ own. looks-then rosterSection _ looks-roster (λ r. looks-check (isOn alias r own) 6 (looks-got _))))
 
-looks-mourned-serials : (m : ℕ) (r : List ℕ) (from : ℕ) (M : Places) → Looks (4 * m) (mournedSerials m r from M)
+looks-mourned-serials : (alias : ℕ → ℕ) (m : ℕ) (r : List ℕ) (from : ℕ) (M : Places) → Looks (4 * m) (mournedSerials alias m r from M)
 unfolding mournedSerials
-looks-mourned-serials zero r from M = looks-got M
-looks-mourned-serials (suc m) r from M =
+looks-mourned-serials alias zero r from M = looks-got M
+looks-mourned-serials alias (suc m) r from M =
     looks-more (omega arith)
-    (looks-then serial _ looks-serial (λ x. looks-check (holds x r) 6 (looks-check (leb from (placeOf x r)) 7 (looks-mourned-serials m r (suc (placeOf x r)) (with (placeOf x r) M)))))
+    (looks-then serial _ looks-serial (λ x. looks-check (isOn alias r x) 6 (looks-check (leb from (placeOn alias r x)) 7 (looks-mourned-serials alias m r (suc (placeOn alias r x)) (with (placeOn alias r x) M)))))
 
-looks-mourned : (r : List ℕ) → Looks (1 + 4 * length r) (mournedSection r)
+looks-mourned : (alias : ℕ → ℕ) (r : List ℕ) → Looks (1 + 4 * length r) (mournedSection alias r)
 unfolding mournedSection
-looks-mourned r = looks-then byte _ looks-byte (λ m. looks-few m (length r) (looks-mourned-serials m r 0 nothing))
+looks-mourned alias r = looks-then byte _ looks-byte (λ m. looks-few m (length r) (looks-mourned-serials alias m r 0 nothing))
 
 -- ---- a whole record
 
-stored-more : (s more : List ℕ) → 1031 ≤ length s → stored (s ++ more) ≡ onto more (stored s)
+stored-more : (alias : ℕ → ℕ) (s more : List ℕ) → 1031 ≤ length s → stored alias (s ++ more) ≡ onto more (stored alias s)
 unfolding stored
-stored-more s more h =
-    then-same {m = 513} headSection _ looks-head s more h (λ k rest e. looks-more (omega (arith, head-back s k rest e .sound .few)) (looks-then (mournedSection (k .roster)) _ (looks-mourned (k .roster)) (λ M. looks-got _)))
+stored-more alias s more h =
+    then-same {m = 513} (headSection alias) _ (looks-head alias) s more h (λ k rest e. looks-more (omega (arith, head-back alias s k rest e .sound .few)) (looks-then (mournedSection alias (k .roster)) _ (looks-mourned alias (k .roster)) (λ M. looks-got _)))
 
 -- 1,031 bytes from a position on are enough to read the record there
-pub enough : (b more : List ℕ) (at : ℕ) → at + 1031 ≤ length b → reading (b ++ more) at ≡ reading b at
+pub enough : (alias : ℕ → ℕ) (b more : List ℕ) (at : ℕ) → at + 1031 ≤ length b → reading alias (b ++ more) at ≡ reading alias b at
 unfolding reading readingOf
-enough b more at h =
+enough alias b more at h =
     ap₂ (λ (n : ℕ) (p : Parsed Stored). readingOf n at p) (length-append b more)
-    (ap stored (drop-append-le at b more (omega arith)) ∙ stored-more (drop at b) more (omega (arith, length-drop at b)))
-    ∙ go (stored (drop at b))
+    (ap (stored alias) (drop-append-le at b more (omega arith)) ∙ stored-more alias (drop at b) more (omega (arith, length-drop at b)))
+    ∙ go (stored alias (drop at b))
   where
     go : (p : Parsed Stored) → readingOf (length b + length more) at (onto more p) ≡ readingOf (length b) at p
     go (got x rest) =
@@ -188,4 +189,4 @@ enough b more at h =
 -- so a window that has them ahead has enough
 pub window-enough : (w : Window) (b : List ℕ) → Inside w b → 1031 ≤ length (ahead w b) → Enough w b
 window-enough w b i h more =
-    enough (take (w .have) b) more (w .at) (omega (arith, length-take-le (w .have) b (i .1), length-ahead w b (i .1)))
+    enough itself (take (w .have) b) more (w .at) (omega (arith, length-take-le (w .have) b (i .1), length-ahead w b (i .1)))

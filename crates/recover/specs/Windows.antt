@@ -4,6 +4,7 @@ use mathlib.Core.List.{List, _++_}
 use Prim.Native.Nat.{ℕ, _≤_}
 use lib.ListN.{length, take}
 use lib.Seq.{slice}
+use Rattle.rosters.specs.Seconds.{itself}
 use Rattle.records.specs.Records.{reading}
 use Rattle.recover.specs.declared.window.Window.{Window}
 
@@ -17,7 +18,7 @@ Inside w b = (w .at ≤ w .have) × (w .have ≤ length b)
 
 -- the record at the front of what is ahead is read as it would be with any bytes after these
 abbrev pub Enough : Window → List ℕ → Type 0
-Enough w b = (more : List ℕ) → reading (take (w .have) b ++ more) (w .at) ≡ reading (take (w .have) b) (w .at)
+Enough w b = (more : List ℕ) → reading itself (take (w .have) b ++ more) (w .at) ≡ reading itself (take (w .have) b) (w .at)
 
 -- a list begins with another
 abbrev pub StartsWith : List ℕ → List ℕ → Type 0

@@ -4,6 +4,7 @@ ghost use mathlib.Core.List.{[]};
 ghost use Prim.Native.Nat.{_≤_};
 ghost use lib.ListN.{length, drop};
 ghost use Rattle.histories.specs.declared.Kind.the-variants as kind;
+ghost use Rattle.rosters.specs.Seconds.{itself};
 ghost use Rattle.records.specs.declared.Reading.the-variants as reading;
 ghost use Rattle.records.specs.Records.{reading, serials};
 ghost use Rattle.recovery.specs.Contracts.{fresh};
@@ -31,7 +32,7 @@ fn unopened() -> Recovery
 
 // The recovery that the record at a position opens, with its kind and roster.
 fn opened_by(bytes: &[u8], at: usize, x: Record) -> Recovery
-    requires { ⌜ reading (now bytes) at ≡ reading.Read x ⌝ }
+    requires { ⌜ reading itself (now bytes) at ≡ reading.Read x ⌝ }
     ensures { λ r. ⌜ r ≡ fresh (x .kind) (serials (x .count) (drop (x .roster) (now (bytes .entry)))) ⌝ }
 {
     let mut list = [0u32; 128];
@@ -49,7 +50,7 @@ fn order_of(serials: &[u32], count: usize) -> [u8; 128] {
     orders::order(&serials[..count])
 }
 
-// Reads the record at a position: most often its roster is the recovery's.
+// Reads the record at a position: most often its roster is the recovery's. No place has a second serial here.
 fn read_next<'a>(
     bytes: &[u8],
     at: usize,
@@ -57,12 +58,12 @@ fn read_next<'a>(
     count: usize,
     order: &'a [u8; 128],
 ) -> Reading
-    ensures { λ r. ⌜ r ≡ reading (now (bytes .entry)) at ⌝ }
+    ensures { λ r. ⌜ r ≡ reading itself (now (bytes .entry)) at ⌝ }
 {
     if serials.len() < count {
-        return records::read(bytes, at);
+        return records::read(bytes, at, &serials[..0], &serials[..0]);
     }
-    records::read_like(bytes, at, &serials[..count], order)
+    records::read_like(bytes, at, &serials[..count], &serials[..0], order)
 }
 
 // The fault of a record that cannot be read, 0 where it can.

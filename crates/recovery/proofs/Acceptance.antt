@@ -1,21 +1,24 @@
--- The example of document 01, call by call, each with the outcome that it computes to, and what its records leave. Assumes nothing.
+-- The example of document 01, call by call, each with the outcome that it computes to, and what its records leave; after it the same group
+-- with second serials (document 02, [2]). Assumes nothing.
 use mathlib.Core.Path.{_≡_, refl}
 use mathlib.Core.List.{List, [], _∷_, _++_, map}
 use Prim.Native.Nat.{ℕ}
 use lib.ListN.{replicate}
 use Rattle.places.specs.Sets.{any, all, subset, same, count, lowest}
-use Rattle.places.specs.PlaceSets.{bit, has, word, packed, found}
+use Rattle.places.specs.PlaceSets.{bit, has, word, packed}
 use Rattle.histories.specs.Rule as H
 use Rattle.rosters.specs.Rosters.{placeOf, holds, firstRepeat, listed}
+use Rattle.rosters.specs.Seconds.{isSecond, countsAs, standsFor, finding}
 use Rattle.rows.specs.Rows.{noRows, rowAt, rowsOf, withRow, bytesFrom, rowBytes, putRow, rowIn, historyIn, rowsFrom, laid}
 use Rattle.records.specs.Layout as L
 use Rattle.records.specs.Records.{sameList, unwritten, putAt, writtenAt}
 use Rattle.answers.specs.Views.{size, acceptedIn}
+use Rattle.groups.specs.Groups.{isFound, aliasIn, foundAmong, giving}
 use Rattle.checks.specs.Checks.{offRoster}
 use Rattle.shows.specs.Shows.{unshown, replaced, shownOpen, shownAs, shownIn}
 use Rattle.replies.specs.Replies.{sameKind, entering}
 use Rattle.recovery.specs.Contracts as C
-use Rattle.recovery.specs.Demand.{Call, offer, ask, show, check, whole, unmourned-count, find, write, Outcome, says, lent, lent-one, number, opened, taken, repeated, is-last, not-last, is-open, decided, shown, fits, fits-not, unsettled, not-found, ends, refused}
+use Rattle.recovery.specs.Demand.{Call, offer, ask, show, check, whole, unmourned-count, find, give, write, Outcome, says, lent, lent-one, number, opened, taken, repeated, is-last, not-last, is-open, decided, shown, fits, fits-not, unsettled, given, not-found, first-of, second-of, ends, refused}
 use Rattle.recovery.specs.Run as U
 
 unfoldable pub serials : List ℕ
@@ -41,6 +44,29 @@ other-101 = (2 ∷ 0 ∷ 0 ∷ 0 ∷ 101 ∷ []) ++ group ++ (1 ∷ 0 ∷ 0 ∷ 
 
 unfoldable pub circle-102 : List ℕ
 circle-102 = (2 ∷ 0 ∷ 0 ∷ 0 ∷ 102 ∷ []) ++ group ++ (1 ∷ 0 ∷ 0 ∷ 0 ∷ 104 ∷ [])
+
+-- with second serials: 201, 202 and 203 for 101, 102 and 103. 104 mourns 102 and 103 again, by their second ones
+unfoldable pub second-104 : List ℕ
+second-104 = (2 ∷ 0 ∷ 0 ∷ 0 ∷ 104 ∷ []) ++ group ++ (2 ∷ 0 ∷ 0 ∷ 0 ∷ 202 ∷ 0 ∷ 0 ∷ 0 ∷ 203 ∷ [])
+
+-- 102 by both of its serials
+unfoldable pub twice-102 : List ℕ
+twice-102 = (2 ∷ 0 ∷ 0 ∷ 0 ∷ 104 ∷ []) ++ group ++ (2 ∷ 0 ∷ 0 ∷ 0 ∷ 102 ∷ 0 ∷ 0 ∷ 0 ∷ 202 ∷ [])
+
+-- 103, by its second serial, mourns 103
+unfoldable pub itself-103 : List ℕ
+itself-103 = (2 ∷ 0 ∷ 0 ∷ 0 ∷ 203 ∷ []) ++ group ++ (1 ∷ 0 ∷ 0 ∷ 0 ∷ 103 ∷ [])
+
+-- on a roster of 101 and 201 each stands for itself
+unfoldable pub other-roster : List ℕ
+other-roster = (2 ∷ 0 ∷ 0 ∷ 0 ∷ 101 ∷ []) ++ (2 ∷ 0 ∷ 0 ∷ 0 ∷ 101 ∷ 0 ∷ 0 ∷ 0 ∷ 201 ∷ []) ++ (2 ∷ 0 ∷ 0 ∷ 0 ∷ 101 ∷ 0 ∷ 0 ∷ 0 ∷ 201 ∷ [])
+
+-- 102 mourns 101, by their second serials and by their first
+unfoldable pub second-102 : List ℕ
+second-102 = (2 ∷ 0 ∷ 0 ∷ 0 ∷ 202 ∷ []) ++ group ++ (1 ∷ 0 ∷ 0 ∷ 0 ∷ 201 ∷ [])
+
+unfoldable pub record-102 : List ℕ
+record-102 = (2 ∷ 0 ∷ 0 ∷ 0 ∷ 102 ∷ []) ++ group ++ (1 ∷ 0 ∷ 0 ∷ 0 ∷ 101 ∷ [])
 
 -- a row by its first byte
 unfoldable pub row : ℕ → List ℕ
@@ -75,7 +101,7 @@ lines =
     ∷ (ask 4 ▸ says (refused 12))
     ∷ (whole ▸ says unsettled)
     ∷ (unmourned-count ▸ number 2)
-    ∷ (find 103 ▸ number 2)
+    ∷ (find 103 ▸ says (first-of 2))
     ∷ (find 105 ▸ says not-found)
     ∷ (offer record-101 ▸ says repeated)
     ∷ (offer (record-101 ++ (7 ∷ [])) ▸ says (refused 8))
@@ -98,6 +124,29 @@ lines =
     ∷ (ask 1 ▸ says not-last)
     ∷ (ask 3 ▸ says is-last)
     ∷ (show 1 [] [] ▸ lent decided [] [])
+    -- second serials
+    ∷ (offer second-104 ▸ says (refused 6))
+    ∷ (give 4 0 ▸ says (refused 12))
+    ∷ (give 1 0 ▸ says (refused 4))
+    ∷ (give 1 102 ▸ says (refused 16))
+    ∷ (give 1 104 ▸ says (refused 16))
+    ∷ (give 1 202 ▸ says given)
+    ∷ (give 1 205 ▸ says (refused 16))
+    ∷ (give 2 202 ▸ says (refused 16))
+    ∷ (give 2 203 ▸ says given)
+    ∷ (give 0 201 ▸ says given)
+    ∷ (find 102 ▸ says (first-of 1))
+    ∷ (find 202 ▸ says (second-of 1))
+    ∷ (find 0 ▸ says not-found)
+    ∷ (offer second-104 ▸ says repeated)
+    ∷ (offer twice-102 ▸ says (refused 7))
+    ∷ (offer other-roster ▸ says (refused 9))
+    ∷ (offer itself-103 ▸ says (refused 11))
+    ∷ (offer second-102 ▸ says taken)
+    ∷ (offer record-102 ▸ says repeated)
+    ∷ (write 1 (replicate 27 9) 0 ▸ lent-one (ends 27) record-102)
+    ∷ (ask 0 ▸ says not-last)
+    ∷ (ask 3 ▸ says is-last)
     ∷ []
 
 pub opening : U.openingSays (C.opened 2 serials .answer) ≡ opened
@@ -105,10 +154,10 @@ unfolding serials U.openingSays C.opened C.openedAs listed placeOf holds firstRe
 opening = refl
 
 pub listing : U.run (C.opened 2 serials .recovery) (map callOf lines) ≡ map outcomeOf lines
-unfolding serials group record-101 record-104 full-101 other-101 circle-102 row first-rows second-rows callOf outcomeOf lines U.run U.next U.outcome U.offerSays U.askedSays U.showingSays U.checkedSays U.writingSays U.foundGives U.shownGives U.writtenGives C.sizeOf C.rosterOf C.acceptedOf C.fresh C.openedAs C.opened sameKind C.ofGroup C.saying C.keeping C.answered entering C.entered C.judged C.offeredAs C.offered C.answerAt C.askedAs C.asked unshown replaced shownOpen shownAs shownIn C.shown offRoster C.checkedRows C.checked C.settledOf C.unmournedOf C.unmournedCountOf C.foundIn C.recordOf C.writtenOf size acceptedIn L.then L.check L.byte L.serial L.knownKind L.kindOf L.kindSection L.rosterSerials L.rosterSection L.headSection L.mournedSerials L.mournedSection L.stored L.lone L.kindByte L.serialBytes L.serialsBytes L.chosen L.layout sameList unwritten putAt writtenAt placeOf holds firstRepeat listed noRows rowAt rowsOf withRow bytesFrom rowBytes putRow rowIn historyIn rowsFrom laid bit has word packed found any all subset same count lowest H.recorded H.mourned H.reach H.before H.ruledOutBy H.blockersBy H.answerBy H.openAnswer H.settledBy H.inherited H.agrees H.accepts H.closedRows H.fitsTest
+unfolding serials group record-101 record-104 full-101 other-101 circle-102 second-104 twice-102 itself-103 other-roster second-102 record-102 row first-rows second-rows callOf outcomeOf lines U.run U.next U.outcome U.offerSays U.askedSays U.showingSays U.checkedSays U.writingSays U.foundSays U.givingSays U.shownGives U.writtenGives C.sizeOf C.rosterOf C.secondsOf C.aliasOf C.acceptedOf C.fresh C.openedAs C.opened sameKind C.ofGroup C.saying C.keeping C.answered entering C.entered C.judged C.offeredAs C.offered C.answerAt C.askedAs C.asked unshown replaced shownOpen shownAs shownIn C.shown offRoster C.checkedRows C.checked C.settledOf C.unmournedOf C.unmournedCountOf C.foundIn C.withSecond C.gaveAs C.given isFound aliasIn foundAmong giving C.recordOf C.writtenOf size acceptedIn L.then L.check L.byte L.serial L.knownKind L.kindOf L.kindSection L.rosterSerials L.rosterSection L.headSection L.mournedSerials L.mournedSection L.stored L.lone L.kindByte L.serialBytes L.serialsBytes L.chosen L.layout sameList unwritten putAt writtenAt placeOf holds isSecond countsAs standsFor finding firstRepeat listed noRows rowAt rowsOf withRow bytesFrom rowBytes putRow rowIn historyIn rowsFrom laid bit has word packed any all subset same count lowest H.recorded H.mourned H.reach H.before H.ruledOutBy H.blockersBy H.answerBy H.openAnswer H.settledBy H.inherited H.agrees H.accepts H.closedRows H.fitsTest
 listing = refl
 
 -- its two records in either order, and one of them once more, leave one recovery
 pub either-order : U.left (C.opened 2 serials .recovery) (offer record-101 ∷ offer record-104 ∷ []) ≡ U.left (C.opened 2 serials .recovery) (offer record-104 ∷ offer record-101 ∷ offer record-104 ∷ [])
-unfolding serials group record-101 record-104 U.left U.next C.sizeOf C.rosterOf C.acceptedOf C.fresh C.openedAs C.opened sameKind C.ofGroup C.saying C.keeping C.answered entering C.entered C.judged C.offeredAs C.offered size acceptedIn L.then L.check L.byte L.serial L.knownKind L.kindOf L.kindSection L.rosterSerials L.rosterSection L.headSection L.mournedSerials L.mournedSection L.stored L.lone sameList placeOf holds firstRepeat listed noRows rowsOf withRow bytesFrom rowBytes putRow rowIn bit has word packed any all subset same H.recorded H.reach H.before H.accepts
+unfolding serials group record-101 record-104 U.left U.next C.sizeOf C.rosterOf C.secondsOf C.aliasOf C.acceptedOf C.fresh C.openedAs C.opened sameKind C.ofGroup C.saying C.keeping C.answered entering C.entered C.judged C.offeredAs C.offered size acceptedIn L.then L.check L.byte L.serial L.knownKind L.kindOf L.kindSection L.rosterSerials L.rosterSection L.headSection L.mournedSerials L.mournedSection L.stored L.lone sameList placeOf holds isSecond countsAs standsFor firstRepeat listed noRows rowsOf withRow bytesFrom rowBytes putRow rowIn bit has word packed any all subset same H.recorded H.reach H.before H.accepts
 either-order = refl

@@ -1,19 +1,18 @@
 -- What each call gives, case by case: one law for each case, as the code meets it. Assumes nothing.
 use mathlib.Core.Path.{_≡_, refl, sym, ap, ap₂, _∙_}
-use mathlib.Core.Bool.{Bool, true, false, cond}
+use mathlib.Core.Bool.{Bool, true, false, not, cond}
 use mathlib.Core.Logic.{_⊎_}
 use mathlib.Core.List.{List}
 use Prim.Native.Nat.{ℕ, _+_, _*_, _<_, _≤_}
-use lib.ListN.{length}
-use lib.Dec.{leb, ltb}
-use borrow.Author.Tests.{lt-ltb, le-ltb, le-leb, lt-leb}
+use lib.ListN.{length, getD}
+use lib.Seq.{getD-take}
+use lib.Dec.{eqb, leb, ltb}
+use borrow.Author.Tests.{lt-ltb, le-ltb, le-leb, lt-leb, eq-eqb, ne-eqb}
 use Rattle.places.specs.Sets.{below, difference, with, same, lowest}
-use Rattle.places.specs.PlaceSets.{has, found}
-use Rattle.places.specs.declared.Found.the-variants.{At, Nothing}
+use Rattle.places.specs.PlaceSets.{has}
 use Rattle.places.proofs.Booleans.{is-false, and-intro, and-left, and-right}
 use Rattle.histories.specs.Histories.{Row}
 use Rattle.histories.specs.Rule.{Answer, is-last, not-last, is-open, blockersBy, answerBy, settledBy, inherited, accepts, fitsTest}
-use Rattle.rosters.specs.Rosters.{placeOf}
 use Rattle.rows.specs.Rows.{rowsOf, historyIn, laid}
 use Rattle.records.specs.declared.Writing.the-variants as W
 use Rattle.records.specs.Layout.{got, refused, Stored, lone, layout}
@@ -29,7 +28,11 @@ use Rattle.shows.specs.Shows.{unshown, replaced, shownIn}
 use Rattle.shows.proofs.Cases as case
 use Rattle.recovery.specs.declared.Checked.the-variants as C
 use Rattle.checks.specs.Checks.{offRoster}
-use Rattle.recovery.specs.Contracts.{sizeOf, rosterOf, acceptedOf, ofGroup, saying, keeping, answered, entered, judged, offeredAs, offered, answerAt, askedAs, asked, shown, checkedRows, checked, settledOf, unmournedOf, foundIn, recordOf, writtenOf}
+use Rattle.groups.specs.declared.Giving.{Giving}
+use Rattle.groups.specs.declared.Giving.the-variants as Y
+use Rattle.groups.specs.Groups.{aliasIn, foundAmong, isFound, giving}
+use Rattle.groups.proofs.Laws.{give-off, give-zero, give-known, give-has, give-new}
+use Rattle.recovery.specs.Contracts.{sizeOf, rosterOf, secondsOf, aliasOf, acceptedOf, ofGroup, saying, keeping, answered, entered, judged, offeredAs, offered, answerAt, askedAs, asked, shown, checkedRows, checked, settledOf, unmournedOf, foundIn, withSecond, gaveAs, given, recordOf, writtenOf}
 use Rattle.recovery.proofs.Facts.{same-kind-elim, same-kind-self, same-list-self}
 
 -- ---- offering
@@ -47,11 +50,11 @@ unfolding ofGroup
 group-intro r x k s = and-intro (ap (sameKind (x .kind)) (sym k) ∙ same-kind-self (x .kind)) (ap (sameList (x .roster)) (sym s) ∙ same-list-self (x .roster))
 
 module _ (r : Recovery) (bytes : List ℕ) where
-  pub offered-faulty : (j : ℕ) → lone bytes ≡ refused j → offered r bytes ≡ saying r (O.Refused j)
+  pub offered-faulty : (j : ℕ) → lone (aliasOf r) bytes ≡ refused j → offered r bytes ≡ saying r (O.Refused j)
   unfolding offered offeredAs
   offered-faulty j e = ap (offeredAs r) e
 
-  module _ (x : Stored) (rest : List ℕ) (e : lone bytes ≡ got x rest) where
+  module _ (x : Stored) (rest : List ℕ) (e : lone (aliasOf r) bytes ≡ got x rest) where
     pub offered-foreign : ¬ ((x .kind ≡ r .kind) × (x .roster ≡ rosterOf r)) → offered r bytes ≡ saying r (O.Refused 9)
     unfolding offered offeredAs judged
     offered-foreign z =
@@ -193,13 +196,35 @@ module _ (r : Recovery) {n : ℕ} (is : sizeOf r ≡ n) where
           written-on true b
           ∙ ap (λ (t : Bool). cond t (record { answer = W.Next (at + length (layout (recordOf r p))); buffer = putAt at (layout (recordOf r p)) out }) (unwritten 13 out)) (le-leb (at + length (layout (recordOf r p))) (length out) u)
 
--- ---- the place of a serial
+-- ---- giving a place a second serial
 
-module _ (r : Recovery) (x : ℕ) where
-  pub found-there : placeOf x (rosterOf r) < length (rosterOf r) → foundIn r x ≡ At (record { 0 = placeOf x (rosterOf r) })
-  unfolding foundIn found
-  found-there l = ap (λ (t : Bool). cond t (At (record { 0 = placeOf x (rosterOf r) })) Nothing) (lt-ltb (placeOf x (rosterOf r)) (length (rosterOf r)) l)
+module _ (r : Recovery) (p x : ℕ) where
+  gave : {v : Giving} → v ≡ giving (r .count) (r .serials) (r .seconds) p x → given r p x ≡ gaveAs r p x v
+  unfolding given
+  gave e = ap (gaveAs r p x) (sym e)
 
-  pub found-nowhere : length (rosterOf r) ≤ placeOf x (rosterOf r) → foundIn r x ≡ Nothing
-  unfolding foundIn found
-  found-nowhere l = ap (λ (t : Bool). cond t (At (record { 0 = placeOf x (rosterOf r) })) Nothing) (le-ltb (placeOf x (rosterOf r)) (length (rosterOf r)) l)
+  pub given-off : sizeOf r ≤ p → given r p x ≡ record { answer = Y.Refused 12; recovery = r }
+  unfolding gaveAs sizeOf
+  given-off l = gave (give-off (r .count) (r .serials) (r .seconds) p x l)
+
+  module _ (on : p < sizeOf r) where
+    pub given-zero : x ≡ 0 → given r p x ≡ record { answer = Y.Refused 4; recovery = r }
+    unfolding gaveAs sizeOf
+    given-zero z = gave (give-zero (r .count) (r .serials) (r .seconds) p x on z)
+
+    module _ (z : ¬ (x ≡ 0)) where
+      pub given-known : isFound (foundIn r x) ≡ true → given r p x ≡ record { answer = Y.Refused 16; recovery = r }
+      unfolding gaveAs sizeOf foundIn aliasOf rosterOf secondsOf foundAmong aliasIn
+      given-known e = gave (give-known (r .count) (r .serials) (r .seconds) p x on z e)
+
+      module _ (e : isFound (foundIn r x) ≡ false) where
+        taken : ℕ → Bool
+        taken y = not (eqb y 0)
+
+        pub given-has : ¬ (getD (secondsOf r) p 0 ≡ 0) → given r p x ≡ record { answer = Y.Refused 16; recovery = r }
+        unfolding gaveAs sizeOf foundIn aliasOf rosterOf secondsOf foundAmong aliasIn taken
+        given-has h = gave (give-has (r .count) (r .serials) (r .seconds) p x on z e (ap taken (sym (getD-take (sizeOf r) (r .seconds) p 0 on)) ∙ ap not (ne-eqb (getD (secondsOf r) p 0) 0 h)))
+
+        pub given-new : getD (secondsOf r) p 0 ≡ 0 → given r p x ≡ record { answer = Y.Given; recovery = withSecond r p x }
+        unfolding gaveAs sizeOf foundIn aliasOf rosterOf secondsOf foundAmong aliasIn taken
+        given-new h = gave (give-new (r .count) (r .serials) (r .seconds) p x on z e (ap taken (sym (getD-take (sizeOf r) (r .seconds) p 0 on)) ∙ ap not (eq-eqb (getD (secondsOf r) p 0) 0 h)))

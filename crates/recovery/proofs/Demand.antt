@@ -1,12 +1,12 @@
 -- Demand 3, proved: after a sound opening no call has an outcome that the records accepted by then do not dictate. Assumes nothing.
-use mathlib.Core.Path.{_≡_, refl, sym, ap, _∙_, subst}
+use mathlib.Core.Path.{_≡_, refl, sym, ap, ap₂, _∙_, subst}
 use mathlib.Core.Bool.{Bool, true, false, cond, _&&_}
 use mathlib.Core.Logic.{_⊎_, inl, inr, _↔_}
 use mathlib.Core.List.{List, [], _∷_}
 use Prim.Native.Nat.{ℕ, _+_, _*_, _^_, _<_, _≤_}
 use native.Mathlib.Omega.{arith}
-use native.Mathlib.Decide.{decLt}
-use lib.ListN.{length, getD, drop}
+use native.Mathlib.Decide.{decLt, ℕ-discrete}
+use lib.ListN.{length, getD, set, drop, replicate, length-set, length-replicate}
 use lib.Dec.{ltb}
 use borrow.Author.Tests.{lt-ltb}
 use Rattle.places.specs.Sets.{nothing, same}
@@ -14,14 +14,16 @@ use Rattle.places.specs.PlaceSets.{has}
 use Rattle.places.proofs.Booleans.{split, clash, is-false, and-right}
 use Rattle.places.proofs.Tests.{same-intro}
 use Rattle.histories.specs.declared.Kind.{Kind}
-use Rattle.histories.specs.Histories.{Row, History, Accepted, none, lay, Fits, Disagree}
+use Rattle.histories.specs.Histories.{Row, History, Accepted, lay, Fits, Disagree}
 use Rattle.histories.specs.Rule.{Answer, is-last, not-last, is-open, answerBy, answer, recorded, second, accepts, fitsTest, settled}
 use Rattle.histories.proofs.Exact.{exact, settled-iff, unsettled, unmourned-iff, unmourned-absent-iff}
 use Rattle.histories.proofs.Accepts.{accepts-iff}
 use Rattle.histories.proofs.Checks.{fits-iff}
 use Rattle.histories.proofs.Demand.{none-fitted}
-use Rattle.rosters.specs.Rosters.{placeOf, IsRoster}
-use Rattle.rosters.proofs.Laws.{place-stands, past-holds, holds-nowhere}
+use Rattle.rosters.specs.Rosters.{IsRoster}
+use Rattle.rosters.specs.Seconds.{countsAs, itself}
+use Rattle.rosters.specs.declared.Finding.{Finding}
+use Rattle.groups.specs.Groups.{isFound}
 use Rattle.rows.specs.Rows.{historyIn, laid}
 use Rattle.rows.proofs.Laws.{laid-length, laid-rest, laid-history}
 use Rattle.records.specs.Layout.{Parsed, got, kindOf, Stored, stored, lone, layout}
@@ -32,20 +34,23 @@ use Rattle.records.proofs.Trips.{read-layout, faults}
 use Rattle.recovery.specs.declared.Recovery.{Recovery}
 use Rattle.recovery.specs.declared.Opening.the-variants as G
 use Rattle.recovery.specs.declared.Offered.{Offered}
+use Rattle.recovery.specs.declared.Gave.{Gave}
 use Rattle.checks.specs.Checks.{offRoster}
 use Rattle.shows.specs.Shows.{unshown}
-use Rattle.recovery.specs.Contracts.{sizeOf, rosterOf, acceptedOf, holding, fresh, opened, ofGroup, saying, keeping, entered, offered, askedAs, asked, shown, checked, settledOf, unmournedOf, unmournedAbsentOf, unmournedCountOf, foundIn, recordOf, writtenOf}
+use Rattle.recovery.specs.Contracts.{sizeOf, rosterOf, secondsOf, aliasOf, acceptedOf, holding, fresh, opened, ofGroup, saying, keeping, entered, offered, askedAs, asked, shown, checked, settledOf, unmournedOf, unmournedAbsentOf, unmournedCountOf, foundIn, withSecond, given, recordOf, writtenOf}
 use Rattle.recovery.specs.Demand as D
-use Rattle.recovery.specs.Demand.{Free, Call, offer, ask, show, check, whole, unmourned, unmourned-absent, unmourned-count, find, write, says, lent-one, places, number, OfGroup, Holds, recordIn, Dictates, faulty, foreign, repeats, differs, takes, none-fits, asked-off, asked-last, asked-not, asked-open, showed-off, showed-decided, showed-short, showed, checked-short, checked-off, checked-fits, checked-not, whole-settled, whole-open, gave-unmourned, gave-absent, gave-count, found-at, found-none, wrote-off, wrote-absent, wrote-short, wrote, Whole, end, then}
-use Rattle.recovery.specs.Run.{offerSays, askedSays, showingSays, checkedSays, writingSays, foundGives, shownGives, writtenGives, outcome, next, run, left}
+use Rattle.recovery.specs.Demand.{Free, Call, offer, ask, show, check, whole, unmourned, unmourned-absent, unmourned-count, find, give, write, Ledger, begun, KnownSerial, AreSeconds, says, lent-one, places, number, OfGroup, Holds, recordIn, Dictates, faulty, foreign, repeats, differs, takes, none-fits, asked-off, asked-last, asked-not, asked-open, showed-off, showed-decided, showed-short, showed, checked-short, checked-off, checked-fits, checked-not, whole-settled, whole-open, gave-unmourned, gave-absent, gave-count, found-first, found-second, found-none, gave-off, gave-zero, gave-known, gave, wrote-off, wrote-absent, wrote-short, wrote, Whole, end, then}
+use Rattle.recovery.specs.Run.{offerSays, askedSays, showingSays, checkedSays, writingSays, foundSays, givingSays, shownGives, writtenGives, outcome, next, run, ledgerOf, left}
 use Rattle.recovery.proofs.Opens.{opened-free}
-use Rattle.recovery.proofs.Keeps.{row-on, fresh-accepted, fresh-holds, kept-accepted, Held, held-kind, held-size, held-roster, held-table, keeping-holds, kept-answer, kept-settled, kept-shown, kept-unmourned, kept-absent, kept-count}
+use Rattle.recovery.proofs.Keeps.{row-on, fresh-accepted, fresh-seconds, fresh-holds, kept-accepted, Held, held-kind, held-size, held-roster, held-table, keeping-holds, second-given, second-holds, kept-answer, kept-settled, kept-shown, kept-unmourned, kept-absent, kept-count}
+use Rattle.recovery.proofs.Swaps.{Standing, as-first, as-second, unknown, standing, seconds-none, seconds-noted}
 use Rattle.recovery.proofs.Calls as call
 use Rattle.recovery.proofs.Facts.{rows-equal, off-there, rows-on, lone-on, take-put, past-put}
 
 -- the invariant: true from the opening on, whatever is called
 pub record Good (k : Kind) (roster : List ℕ) (r : Recovery) : Type 0 where
   pub held : Held k roster r
+  pub given : AreSeconds roster (secondsOf r)
   pub sound : IsRoster roster
   pub below : (p : ℕ) → p < length roster → getD roster p 0 < 2 ^ 32
   pub some : History
@@ -61,6 +66,11 @@ module _ {k : Kind} {roster : List ℕ} {r : Recovery} (g : Good k roster r) whe
   pub is-size : sizeOf r ≡ length roster
   is-size = held-size (g .held)
 
+  -- what serials count as in its group
+  pub is-alias : aliasOf r ≡ countsAs roster (secondsOf r)
+  unfolding aliasOf
+  is-alias = ap (λ (s : List ℕ). countsAs s (secondsOf r)) is-roster
+
 -- ---- one call on a recovery of this roster; its kind is its own
 
 module _ {roster : List ℕ} {r : Recovery} (g : Good (r .kind) roster r) where
@@ -74,19 +84,19 @@ module _ {roster : List ℕ} {r : Recovery} (g : Good (r .kind) roster r) where
 
   -- ---- asking
 
-  ask-step : (i : ℕ) → Dictates (r .kind) roster (acceptedOf r) (ask i) (says (askedSays (asked r i))) (acceptedOf r)
+  ask-step : (i : ℕ) → Dictates (r .kind) roster (ledgerOf r) (ask i) (says (askedSays (asked r i))) (ledgerOf r)
   unfolding askedAs askedSays
   ask-step i = go (decLt i n)
     where
       n : ℕ
       n = length roster
 
-      at : i < n → (a : Answer) → answer (r .kind) n (acceptedOf r) i ≡ a → Dictates (r .kind) roster (acceptedOf r) (ask i) (says (askedSays (asked r i))) (acceptedOf r)
+      at : i < n → (a : Answer) → answer (r .kind) n (acceptedOf r) i ≡ a → Dictates (r .kind) roster (ledgerOf r) (ask i) (says (askedSays (asked r i))) (ledgerOf r)
       at l is-last e = rw (call.asked-is r (is-size g) i is-last l (by i e)) (asked-last l (exact (g .fits) i l .last-iff .0 e))
       at l not-last e = rw (call.asked-is r (is-size g) i not-last l (by i e)) (asked-not l (exact (g .fits) i l .not-iff .0 e))
       at l is-open e = rw (call.asked-is r (is-size g) i is-open l (by i e)) (asked-open l (exact (g .fits) i l .shown e))
 
-      go : Dec (i < n) → Dictates (r .kind) roster (acceptedOf r) (ask i) (says (askedSays (asked r i))) (acceptedOf r)
+      go : Dec (i < n) → Dictates (r .kind) roster (ledgerOf r) (ask i) (says (askedSays (asked r i))) (ledgerOf r)
       go (yes l) = at l (answer (r .kind) n (acceptedOf r) i) refl
       go (no l) = let m : n ≤ i = omega arith in rw (call.asked-off r (is-size g) i m) (asked-off m)
 
@@ -108,7 +118,7 @@ module _ {roster : List ℕ} {r : Recovery} (g : Good (r .kind) roster r) where
 
   -- an open place
   open-step : (i : ℕ) (a b : List ℕ) → i < length roster → answer (r .kind) (length roster) (acceptedOf r) i ≡ is-open
-      → Dictates (r .kind) roster (acceptedOf r) (show i a b) (shownGives (shown r i a b)) (acceptedOf r)
+      → Dictates (r .kind) roster (ledgerOf r) (show i a b) (shownGives (shown r i a b)) (ledgerOf r)
   unfolding unshown shownGives showingSays
   open-step i a b l e = go (decLt (length a) (16 * n)) (decLt (length b) (16 * n))
     where
@@ -118,10 +128,10 @@ module _ {roster : List ℕ} {r : Recovery} (g : Good (r .kind) roster r) where
       d : Disagree (r .kind) n (acceptedOf r) i (recorded (acceptedOf r)) (second (r .kind) n (acceptedOf r) i)
       d = exact (g .fits) i l .shown e
 
-      short : (length a < 16 * n) ⊎ (length b < 16 * n) → Dictates (r .kind) roster (acceptedOf r) (show i a b) (shownGives (shown r i a b)) (acceptedOf r)
+      short : (length a < 16 * n) ⊎ (length b < 16 * n) → Dictates (r .kind) roster (ledgerOf r) (show i a b) (shownGives (shown r i a b)) (ledgerOf r)
       short s = rw (call.shown-short r (is-size g) i a b l (by i e) s) (showed-short l d s)
 
-      go : Dec (length a < 16 * n) → Dec (length b < 16 * n) → Dictates (r .kind) roster (acceptedOf r) (show i a b) (shownGives (shown r i a b)) (acceptedOf r)
+      go : Dec (length a < 16 * n) → Dec (length b < 16 * n) → Dictates (r .kind) roster (ledgerOf r) (show i a b) (shownGives (shown r i a b)) (ledgerOf r)
       go (yes x) y = short (inl x)
       go (no x) (yes y) = short (inr y)
       go (no x) (no y) =
@@ -130,29 +140,31 @@ module _ {roster : List ℕ} {r : Recovery} (g : Good (r .kind) roster r) where
           rw (kept-shown (g .held) i a b l e u v)
           (showed l u v d (holds (recorded (acceptedOf r)) a u (d .first-fits .history .inside)) (holds (second (r .kind) n (acceptedOf r) i) b v (d .second-fits .history .inside)))
 
-  show-step : (i : ℕ) (a b : List ℕ) → Dictates (r .kind) roster (acceptedOf r) (show i a b) (shownGives (shown r i a b)) (acceptedOf r)
+  show-step : (i : ℕ) (a b : List ℕ) → Dictates (r .kind) roster (ledgerOf r) (show i a b) (shownGives (shown r i a b)) (ledgerOf r)
   unfolding unshown shownGives showingSays
   show-step i a b = go (decLt i n)
     where
       n : ℕ
       n = length roster
 
-      at : i < n → (w : Answer) → answer (r .kind) n (acceptedOf r) i ≡ w → Dictates (r .kind) roster (acceptedOf r) (show i a b) (shownGives (shown r i a b)) (acceptedOf r)
+      at : i < n → (w : Answer) → answer (r .kind) n (acceptedOf r) i ≡ w → Dictates (r .kind) roster (ledgerOf r) (show i a b) (shownGives (shown r i a b)) (ledgerOf r)
       at l is-last e = rw (call.shown-last r (is-size g) i a b l (by i e)) (showed-decided l (inl (exact (g .fits) i l .last-iff .0 e)))
       at l not-last e = rw (call.shown-not r (is-size g) i a b l (by i e)) (showed-decided l (inr (exact (g .fits) i l .not-iff .0 e)))
       at l is-open e = open-step i a b l e
 
-      go : Dec (i < n) → Dictates (r .kind) roster (acceptedOf r) (show i a b) (shownGives (shown r i a b)) (acceptedOf r)
+      go : Dec (i < n) → Dictates (r .kind) roster (ledgerOf r) (show i a b) (shownGives (shown r i a b)) (ledgerOf r)
       go (yes l) = at l (answer (r .kind) n (acceptedOf r) i) refl
       go (no l) = let m : n ≤ i = omega arith in rw (call.shown-off r (is-size g) i a b m) (showed-off m)
 
   -- ---- offering
 
   -- a record is kept
-  keep-good : (p : ℕ) (M : Row) (H : History) → keeping r p M ≡ holding (r .kind) roster (lay (acceptedOf r) p M) → acceptedOf (keeping r p M) ≡ lay (acceptedOf r) p M
+  keep-good : (p : ℕ) (M : Row) (H : History) → keeping r p M ≡ holding (r .kind) roster (secondsOf r) (lay (acceptedOf r) p M) → acceptedOf (keeping r p M) ≡ lay (acceptedOf r) p M
       → Fits (r .kind) (length roster) (lay (acceptedOf r) p M) H → Good (r .kind) roster (keeping r p M)
+  unfolding secondsOf sizeOf keeping
   keep-good p M H h e f = record {
-    held = record { few = g .sound .few; is = h ∙ ap (holding (r .kind) roster) (sym e) };
+    held = record { few = g .sound .few; long = g .held .long; is = h ∙ ap (holding (r .kind) roster (secondsOf r)) (sym e) };
+    given = g .given;
     sound = g .sound;
     below = g .below;
     some = H;
@@ -162,14 +174,14 @@ module _ {roster : List ℕ} {r : Recovery} (g : Good (r .kind) roster r) where
   module _ (bytes : List ℕ) where
     -- what is said is dictated, and what is left is good
     Does : Offered → Type 0
-    Does o = Dictates (r .kind) roster (acceptedOf r) (offer bytes) (says (offerSays (o .answer))) (acceptedOf (o .recovery)) × Good (r .kind) roster (o .recovery)
+    Does o = Dictates (r .kind) roster (ledgerOf r) (offer bytes) (says (offerSays (o .answer))) (ledgerOf (o .recovery)) × Good (r .kind) roster (o .recovery)
 
-    module _ (x : Stored) (s : OfGroup (r .kind) roster bytes x) where
+    module _ (x : Stored) (s : OfGroup (r .kind) roster (secondsOf r) bytes x) where
       own-on : x .own < length roster
-      own-on = rw (s .same-roster) at (lone-on bytes x (s .rest) (s .reads) .0)
+      own-on = rw (s .same-roster) at (lone-on (countsAs roster (secondsOf r)) bytes x (s .rest) (s .reads) .0)
 
       mourned-on : (q : ℕ) → x .mourned q ≡ true → q < length roster
-      mourned-on q e = rw (s .same-roster) at (lone-on bytes x (s .rest) (s .reads) .1 q e)
+      mourned-on q e = rw (s .same-roster) at (lone-on (countsAs roster (secondsOf r)) bytes x (s .rest) (s .reads) .1 q e)
 
       again-step : acceptedOf r .returned (x .own) ≡ true → Does (entered r (x .own) (x .mourned))
       unfolding Does offerSays saying
@@ -189,7 +201,7 @@ module _ {roster : List ℕ} {r : Recovery} (g : Good (r .kind) roster r) where
           go false e = rw (call.entered-again r (is-size g) (x .own) M b false e) (differs s b (λ h. clash (same-intro n M N (λ q _. ap (λ (S : Row). S q) h)) e), g)
 
       new-step : acceptedOf r .returned (x .own) ≡ false → Does (entered r (x .own) (x .mourned))
-      unfolding Does offerSays saying
+      unfolding Does offerSays saying keeping secondsOf sizeOf
       new-step b = go (accepts (r .kind) n (acceptedOf r) (x .own) M) refl
         where
           n : ℕ
@@ -214,7 +226,7 @@ module _ {roster : List ℕ} {r : Recovery} (g : Good (r .kind) roster r) where
           go true e =
               let f = iff .0 e in
               rw (call.entered-new r (is-size g) (x .own) M b true e)
-              (subst (λ (B : Accepted). Dictates (r .kind) roster (acceptedOf r) (offer bytes) (says D.taken) B) (sym laid-on) (takes s b (f .1)), keep-good (x .own) M (f .0) (keeping-holds (g .held) (x .own) M b own-on) laid-on (f .1))
+              (subst (λ (B : Accepted). Dictates (r .kind) roster (ledgerOf r) (offer bytes) (says D.taken) (record { accepted = B; seconds = secondsOf r })) (sym laid-on) (takes s b (f .1)), keep-good (x .own) M (f .0) (keeping-holds (g .held) (x .own) M b own-on) laid-on (f .1))
           go false e = rw (call.entered-new r (is-size g) (x .own) M b false e) (none-fits s b (λ H f. clash (iff .1 (H, f)) e), g)
 
       enter-step : Does (entered r (x .own) (x .mourned))
@@ -224,29 +236,33 @@ module _ {roster : List ℕ} {r : Recovery} (g : Good (r .kind) roster r) where
           go (inl b) = again-step b
           go (inr b) = new-step b
 
-    read-step : (x : Stored) (rest : List ℕ) → lone bytes ≡ got x rest → Does (offered r bytes)
+    -- as the recovery reads
+    reads : {p : Parsed Stored} → lone (countsAs roster (secondsOf r)) bytes ≡ p → lone (aliasOf r) bytes ≡ p
+    reads e = ap (λ (a : ℕ → ℕ). lone a bytes) (is-alias g) ∙ e
+
+    read-step : (x : Stored) (rest : List ℕ) → lone (countsAs roster (secondsOf r)) bytes ≡ got x rest → Does (offered r bytes)
     unfolding Does offerSays saying
     read-step x rest e = go (ofGroup r x) refl
       where
         go : (t : Bool) → ofGroup r x ≡ t → Does (offered r bytes)
         go true h =
             let w = call.group-elim r x h in
-            rw (call.offered-entered r bytes x rest e (w .0) (w .1)) (enter-step x (record { rest = rest; reads = e; same-kind = w .0; same-roster = w .1 ∙ is-roster g }))
+            rw (call.offered-entered r bytes x rest (reads e) (w .0) (w .1)) (enter-step x (record { rest = rest; reads = e; same-kind = w .0; same-roster = w .1 ∙ is-roster g }))
         go false h =
             let z : ¬ ((x .kind ≡ r .kind) × (x .roster ≡ rosterOf r)) = λ w. clash (call.group-intro r x (w .0) (w .1)) h in
-            rw (call.offered-foreign r bytes x rest e z) (foreign e (λ w. z (w .0, w .1 ∙ sym (is-roster g))), g)
+            rw (call.offered-foreign r bytes x rest (reads e) z) (foreign e (λ w. z (w .0, w .1 ∙ sym (is-roster g))), g)
 
     offer-step : Does (offered r bytes)
     unfolding Does offerSays saying
-    offer-step = go (lone bytes) refl
+    offer-step = go (lone (countsAs roster (secondsOf r)) bytes) refl
       where
-        go : (p : Parsed Stored) → lone bytes ≡ p → Does (offered r bytes)
+        go : (p : Parsed Stored) → lone (countsAs roster (secondsOf r)) bytes ≡ p → Does (offered r bytes)
         go (got x rest) e = read-step x rest e
-        go (L.refused j) e = let w = faults bytes j e in rw (call.offered-faulty r bytes j e) (faulty e (w .0) (w .1), g)
+        go (L.refused j) e = let w = faults (countsAs roster (secondsOf r)) bytes j e in rw (call.offered-faulty r bytes j (reads e)) (faulty e (w .0) (w .1), g)
 
   -- ---- checking a lent history
 
-  check-step : (h : List ℕ) → Dictates (r .kind) roster (acceptedOf r) (check h) (says (checkedSays (checked r h))) (acceptedOf r)
+  check-step : (h : List ℕ) → Dictates (r .kind) roster (ledgerOf r) (check h) (says (checkedSays (checked r h))) (ledgerOf r)
   unfolding checkedSays
   check-step h = go (decLt (length h) (16 * n))
     where
@@ -260,47 +276,100 @@ module _ {roster : List ℕ} {r : Recovery} (g : Good (r .kind) roster r) where
       iff e = fits-iff (r .kind) n (acceptedOf r) (g .some) (g .fits) H (rows-on n h e)
 
       on : 16 * n ≤ length h → offRoster n H ≡ false → (t : Bool) → fitsTest (r .kind) n (acceptedOf r) H ≡ t
-          → Dictates (r .kind) roster (acceptedOf r) (check h) (says (checkedSays (checked r h))) (acceptedOf r)
+          → Dictates (r .kind) roster (ledgerOf r) (check h) (says (checkedSays (checked r h))) (ledgerOf r)
       on l e true f = rw (call.checked-on r (is-size g) h l e true f) (checked-fits l (iff e .0 f))
       on l e false f = rw (call.checked-on r (is-size g) h l e false f) (checked-not l (λ p q x. rows-on n h e p q x .1) (λ y. clash (iff e .1 y) f))
 
-      long : 16 * n ≤ length h → (t : Bool) → offRoster n H ≡ t → Dictates (r .kind) roster (acceptedOf r) (check h) (says (checkedSays (checked r h))) (acceptedOf r)
+      long : 16 * n ≤ length h → (t : Bool) → offRoster n H ≡ t → Dictates (r .kind) roster (ledgerOf r) (check h) (says (checkedSays (checked r h))) (ledgerOf r)
       long l true e = let w = off-there n H e in rw (call.checked-off r (is-size g) h l e) (checked-off (w .0) (w .1) l (w .2) (w .3))
       long l false e = on l e (fitsTest (r .kind) n (acceptedOf r) H) refl
 
-      go : Dec (length h < 16 * n) → Dictates (r .kind) roster (acceptedOf r) (check h) (says (checkedSays (checked r h))) (acceptedOf r)
+      go : Dec (length h < 16 * n) → Dictates (r .kind) roster (ledgerOf r) (check h) (says (checkedSays (checked r h))) (ledgerOf r)
       go (yes l) = rw (call.checked-short r (is-size g) h l) (checked-short l)
       go (no l) = long (omega arith) (offRoster n H) refl
 
   -- ---- the whole, the two sets and the number
 
-  whole-step : Dictates (r .kind) roster (acceptedOf r) whole (says (cond (settledOf r) D.settled D.unsettled)) (acceptedOf r)
+  whole-step : Dictates (r .kind) roster (ledgerOf r) whole (says (cond (settledOf r) D.settled D.unsettled)) (ledgerOf r)
   whole-step = rw (call.settled-is r (is-size g), kept-settled (g .held)) (go (settled (r .kind) (length roster) (acceptedOf r)) refl)
     where
-      go : (t : Bool) → settled (r .kind) (length roster) (acceptedOf r) ≡ t → Dictates (r .kind) roster (acceptedOf r) whole (says (cond t D.settled D.unsettled)) (acceptedOf r)
+      go : (t : Bool) → settled (r .kind) (length roster) (acceptedOf r) ≡ t → Dictates (r .kind) roster (ledgerOf r) whole (says (cond t D.settled D.unsettled)) (ledgerOf r)
       go true e = whole-settled (settled-iff (g .fits) .0 e)
       go false e = let w = unsettled (g .fits) e in whole-open (w .1) (w .2)
 
-  unmourned-step : Dictates (r .kind) roster (acceptedOf r) unmourned (places (unmournedOf r)) (acceptedOf r)
+  unmourned-step : Dictates (r .kind) roster (ledgerOf r) unmourned (places (unmournedOf r)) (ledgerOf r)
   unmourned-step = rw (kept-unmourned (g .held)) (gave-unmourned (unmourned-iff (g .fits)))
 
-  absent-step : Dictates (r .kind) roster (acceptedOf r) unmourned-absent (places (unmournedAbsentOf r)) (acceptedOf r)
+  absent-step : Dictates (r .kind) roster (ledgerOf r) unmourned-absent (places (unmournedAbsentOf r)) (ledgerOf r)
   absent-step = rw (kept-absent (g .held)) (gave-absent (unmourned-iff (g .fits)) (unmourned-absent-iff (length roster) (acceptedOf r)))
 
-  count-step : Dictates (r .kind) roster (acceptedOf r) unmourned-count (number (unmournedCountOf r)) (acceptedOf r)
+  count-step : Dictates (r .kind) roster (ledgerOf r) unmourned-count (number (unmournedCountOf r)) (ledgerOf r)
   count-step = rw (kept-count (g .held)) (gave-count (unmourned-iff (g .fits)))
 
-  -- ---- the place of a serial
+  -- ---- the place of a serial, and a second one
 
-  find-step : (x : ℕ) → Dictates (r .kind) roster (acceptedOf r) (find x) (foundGives (foundIn r x)) (acceptedOf r)
-  unfolding foundGives
-  find-step x = go (decLt (placeOf x (rosterOf r)) (length (rosterOf r)))
+  -- where a serial stands in the group, and what finding says
+  view : (x : ℕ) → Standing roster (secondsOf r) x (foundIn r x)
+  unfolding foundIn
+  view x = rw (is-alias g, is-roster g) (standing roster (secondsOf r) (g .held .long) (g .sound .no-repeat) x)
+
+  find-step : (x : ℕ) → Dictates (r .kind) roster (ledgerOf r) (find x) (says (foundSays (foundIn r x))) (ledgerOf r)
+  unfolding foundSays
+  find-step x = go (view x)
     where
-      go : Dec (placeOf x (rosterOf r) < length (rosterOf r)) → Dictates (r .kind) roster (acceptedOf r) (find x) (foundGives (foundIn r x)) (acceptedOf r)
-      go (yes l) = rw (call.found-there r x l, is-roster g) (let m = rw (is-roster g) at l in found-at m (place-stands x roster m))
-      go (no l) =
-          let m : length (rosterOf r) ≤ placeOf x (rosterOf r) = omega arith in
-          rw (call.found-nowhere r x m) (found-none (holds-nowhere x roster (past-holds x roster (rw (is-roster g) at m))))
+      go : {f : Finding} → Standing roster (secondsOf r) x f → Dictates (r .kind) roster (ledgerOf r) (find x) (says (foundSays f)) (ledgerOf r)
+      go (as-first l e) = found-first l e
+      go (as-second l z e) = found-second l z e
+      go (unknown z) = found-none z
+
+  -- a place is given one
+  give-good : (p x : ℕ) → p < length roster → ¬ (x ≡ 0) → ¬ (KnownSerial roster (secondsOf r) x) → Good (r .kind) roster (withSecond r p x)
+  unfolding acceptedOf withSecond
+  give-good p x l z u =
+      let e : secondsOf (withSecond r p x) ≡ set (secondsOf r) p x = second-given (g .held) p x l in
+      record {
+        held = record {
+          few = g .sound .few;
+          long = ap length e ∙ length-set (secondsOf r) p x ∙ g .held .long;
+          is = second-holds (g .held) p x l ∙ ap (λ (s : List ℕ). holding (r .kind) roster s (acceptedOf r)) (sym e);
+        };
+        given = rw e (seconds-noted roster (secondsOf r) p x (g .given) l z u);
+        sound = g .sound;
+        below = g .below;
+        some = g .some;
+        fits = g .fits;
+      }
+
+  Gives : ℕ → ℕ → Gave → Type 0
+  Gives p x v = Dictates (r .kind) roster (ledgerOf r) (give p x) (says (givingSays (v .answer))) (ledgerOf (v .recovery)) × Good (r .kind) roster (v .recovery)
+
+  give-step : (p x : ℕ) → Gives p x (given r p x)
+  unfolding Gives givingSays acceptedOf withSecond isFound
+  give-step p x = go (decLt p n) (ℕ-discrete x 0)
+    where
+      n : ℕ
+      n = length roster
+
+      at : p < n → p < sizeOf r
+      at l = rw (is-size g) l
+
+      -- one that is new
+      new : p < n → ¬ (x ≡ 0) → isFound (foundIn r x) ≡ false → ¬ (KnownSerial roster (secondsOf r) x) → Dec (getD (secondsOf r) p 0 ≡ 0) → Gives p x (given r p x)
+      new l z f u (yes e) =
+          rw (call.given-new r p x (at l) z f e)
+          (subst (λ (s : List ℕ). Dictates (r .kind) roster (ledgerOf r) (give p x) (says D.given) (record { accepted = acceptedOf r; seconds = s })) (sym (second-given (g .held) p x l)) (gave l z u e), give-good p x l z u)
+      new l z f u (no e) = rw (call.given-has r p x (at l) z f e) (gave-known l z (inr e), g)
+
+      judge : p < n → ¬ (x ≡ 0) → {f : Finding} → foundIn r x ≡ f → Standing roster (secondsOf r) x f → Gives p x (given r p x)
+      judge l z f (as-first {p = q} m e) = rw (call.given-known r p x (at l) z (ap isFound f)) (gave-known l z (inl (q, m, inl e)), g)
+      judge l z f (as-second {p = q} m y e) = rw (call.given-known r p x (at l) z (ap isFound f)) (gave-known l z (inl (q, m, inr e)), g)
+      judge l z f (unknown (inl y)) = absurd (z y)
+      judge l z f (unknown (inr u)) = new l z (ap isFound f) u (ℕ-discrete (getD (secondsOf r) p 0) 0)
+
+      go : Dec (p < n) → Dec (x ≡ 0) → Gives p x (given r p x)
+      go (yes l) (yes z) = rw (call.given-zero r p x (at l) z) (gave-zero l z, g)
+      go (yes l) (no z) = judge l z refl (view x)
+      go (no l) z = let m : n ≤ p = omega arith in rw (call.given-off r p x (rw (is-size g) m)) (gave-off m, g)
 
   -- ---- writing a returned record
 
@@ -311,7 +380,7 @@ module _ {roster : List ℕ} {r : Recovery} (g : Good (r .kind) roster r) where
   pub record-stored : (p : ℕ) → p < length roster → IsStored (recordOf r p)
   record-stored p l = rw (record-is p) (record { roster = g .sound; below = g .below; own = l; mourned = row-inside p })
 
-  write-step : (p : ℕ) (out : List ℕ) (at : ℕ) → Dictates (r .kind) roster (acceptedOf r) (write p out at) (writtenGives (writtenOf r p out at)) (acceptedOf r)
+  write-step : (p : ℕ) (out : List ℕ) (at : ℕ) → Dictates (r .kind) roster (ledgerOf r) (write p out at) (writtenGives (writtenOf r p out at)) (ledgerOf r)
   unfolding unwritten writtenGives writingSays
   write-step p out at = go (decLt p n)
     where
@@ -322,29 +391,29 @@ module _ {roster : List ℕ} {r : Recovery} (g : Good (r .kind) roster r) where
       x = recordIn (r .kind) roster (acceptedOf r) p
 
       lays : p < n → acceptedOf r .returned p ≡ true → at + length (layout (recordOf r p)) ≤ length out
-          → Dictates (r .kind) roster (acceptedOf r) (write p out at) (lent-one (D.ends (at + length (layout (recordOf r p)))) (putAt at (layout (recordOf r p)) out)) (acceptedOf r)
+          → Dictates (r .kind) roster (ledgerOf r) (write p out at) (lent-one (D.ends (at + length (layout (recordOf r p)))) (putAt at (layout (recordOf r p)) out)) (ledgerOf r)
       lays l b = rw (record-is p) (λ u.
           wrote l b u (length-put at (layout x) out u) (take-put at (layout x) out u) (past-put at (layout x) out u)
-          (ap stored (drop-put at (layout x) out u) ∙ read-layout x (rw (record-is p) at (record-stored p l)) (drop (at + length (layout x)) out) ∙ ap (got x) (sym (past-put at (layout x) out u))))
+          (ap (stored itself) (drop-put at (layout x) out u) ∙ read-layout itself x (rw (record-is p) at (record-stored p l)) (drop (at + length (layout x)) out) ∙ ap (got x) (sym (past-put at (layout x) out u))))
 
       back : p < n → acceptedOf r .returned p ≡ true → Dec (length out < at + length (layout (recordOf r p)))
-          → Dictates (r .kind) roster (acceptedOf r) (write p out at) (writtenGives (writtenOf r p out at)) (acceptedOf r)
+          → Dictates (r .kind) roster (ledgerOf r) (write p out at) (writtenGives (writtenOf r p out at)) (ledgerOf r)
       back l b (yes u) = rw (call.written-short r (is-size g) p out at l b u) (wrote-short l b (rw (record-is p) at u))
       back l b (no u) = let v : at + length (layout (recordOf r p)) ≤ length out = omega arith in rw (call.written-at r (is-size g) p out at l b v) (lays l b v)
 
       on : p < n → (acceptedOf r .returned p ≡ true) ⊎ (acceptedOf r .returned p ≡ false)
-          → Dictates (r .kind) roster (acceptedOf r) (write p out at) (writtenGives (writtenOf r p out at)) (acceptedOf r)
+          → Dictates (r .kind) roster (ledgerOf r) (write p out at) (writtenGives (writtenOf r p out at)) (ledgerOf r)
       on l (inl b) = back l b (decLt (length out) (at + length (layout (recordOf r p))))
       on l (inr b) = rw (call.written-absent r (is-size g) p out at l b) (wrote-absent l b)
 
-      go : Dec (p < n) → Dictates (r .kind) roster (acceptedOf r) (write p out at) (writtenGives (writtenOf r p out at)) (acceptedOf r)
+      go : Dec (p < n) → Dictates (r .kind) roster (ledgerOf r) (write p out at) (writtenGives (writtenOf r p out at)) (ledgerOf r)
       go (yes l) = on l (split (acceptedOf r .returned p))
       go (no l) = let m : n ≤ p = omega arith in rw (call.written-off r (is-size g) p out at m) (wrote-off m)
 
   -- ---- any call
 
-  own-step : (c : Call) → Dictates (r .kind) roster (acceptedOf r) c (outcome r c) (acceptedOf (next r c)) × Good (r .kind) roster (next r c)
-  unfolding outcome next Does
+  own-step : (c : Call) → Dictates (r .kind) roster (ledgerOf r) c (outcome r c) (ledgerOf (next r c)) × Good (r .kind) roster (next r c)
+  unfolding outcome next Does Gives
   own-step (offer bytes) = offer-step bytes
   own-step (ask i) = (ask-step i, g)
   own-step (show i a b) = (show-step i a b, g)
@@ -354,6 +423,7 @@ module _ {roster : List ℕ} {r : Recovery} (g : Good (r .kind) roster r) where
   own-step unmourned-absent = (absent-step, g)
   own-step unmourned-count = (count-step, g)
   own-step (find x) = (find-step x, g)
+  own-step (give p x) = give-step p x
   own-step (write p out at) = (write-step p out at, g)
 
 module _ {k : Kind} {roster : List ℕ} {r : Recovery} (g : Good k roster r) where
@@ -361,8 +431,8 @@ module _ {k : Kind} {roster : List ℕ} {r : Recovery} (g : Good k roster r) whe
   own = subst (λ (j : Kind). Good j roster r) (sym (is-kind g)) g
 
   -- a single call has the outcome that is dictated
-  pub step : (c : Call) → Dictates k roster (acceptedOf r) c (outcome r c) (acceptedOf (next r c))
-  step c = subst (λ (j : Kind). Dictates j roster (acceptedOf r) c (outcome r c) (acceptedOf (next r c))) (is-kind g) (own-step own c .0)
+  pub step : (c : Call) → Dictates k roster (ledgerOf r) c (outcome r c) (ledgerOf (next r c))
+  step c = subst (λ (j : Kind). Dictates j roster (ledgerOf r) c (outcome r c) (ledgerOf (next r c))) (is-kind g) (own-step own c .0)
 
   -- and leaves a good recovery
   pub good-next : (c : Call) → Good k roster (next r c)
@@ -375,7 +445,7 @@ unfolding left
 good-after g [] = g
 good-after g (c ∷ cs) = good-after (good-next g c) cs
 
-pub demand-from : {k : Kind} {roster : List ℕ} {r : Recovery} → Good k roster r → (cs : List Call) → Whole k roster (acceptedOf r) cs (run r cs)
+pub demand-from : {k : Kind} {roster : List ℕ} {r : Recovery} → Good k roster r → (cs : List Call) → Whole k roster (ledgerOf r) cs (run r cs)
 unfolding run
 demand-from g [] = end
 demand-from g (c ∷ cs) = then (step g c) (demand-from (good-next g c) cs)
@@ -383,9 +453,17 @@ demand-from g (c ∷ cs) = then (step g c) (demand-from (good-next g c) cs)
 -- ---- from an opening on
 
 module _ (kind : ℕ) (roster : List ℕ) (f : Free kind roster) where
+  no-seconds : secondsOf (fresh (kindOf kind) roster) ≡ replicate (length roster) 0
+  no-seconds = fresh-seconds (kindOf kind) roster (f .sound .few)
+
   fresh-good : Good (kindOf kind) roster (fresh (kindOf kind) roster)
   fresh-good = record {
-    held = record { few = f .sound .few; is = fresh-holds (kindOf kind) roster ∙ ap (holding (kindOf kind) roster) (sym (fresh-accepted (kindOf kind) roster)) };
+    held = record {
+      few = f .sound .few;
+      long = ap length no-seconds ∙ length-replicate (length roster) 0;
+      is = fresh-holds (kindOf kind) roster (f .sound .few) ∙ ap₂ (holding (kindOf kind) roster) (sym no-seconds) (sym (fresh-accepted (kindOf kind) roster));
+    };
+    given = rw no-seconds (seconds-none roster (f .sound .no-zero));
     sound = f .sound;
     below = f .serials;
     some = λ p. nothing;
@@ -400,7 +478,10 @@ good-left f cs = good-after (good-opened f) cs
 
 -- a sound opening succeeds, and whatever is called on the recovery afterwards, in whatever order, is answered as dictated
 pub demand-3 : (kind : ℕ) (roster : List ℕ) → Free kind roster → (cs : List Call)
-    → (opened kind roster .answer ≡ G.Opened) × Whole (kindOf kind) roster none cs (run (opened kind roster .recovery) cs)
+    → (opened kind roster .answer ≡ G.Opened) × Whole (kindOf kind) roster (begun roster) cs (run (opened kind roster .recovery) cs)
 demand-3 kind roster f cs =
     rw (opened-free kind roster f)
-    (refl, subst (λ (A : Accepted). Whole (kindOf kind) roster A cs (run (fresh (kindOf kind) roster) cs)) (fresh-accepted (kindOf kind) roster) (demand-from (fresh-good kind roster f) cs))
+    (refl, subst (λ (A : Ledger). Whole (kindOf kind) roster A cs (run (fresh (kindOf kind) roster) cs)) beside (demand-from (fresh-good kind roster f) cs))
+  where
+    beside : ledgerOf (fresh (kindOf kind) roster) ≡ begun roster
+    beside = ap₂ (λ (A : Accepted) (s : List ℕ). record { accepted = A; seconds = s }) (fresh-accepted (kindOf kind) roster) (no-seconds kind roster f)

@@ -87,10 +87,10 @@ rows-on n h e p q t = (i .0, go (decLt q n))
 -- ---- a record that was read
 
 -- its own place is on its roster, and so is all that it mourns
-pub lone-on : (bytes : List ℕ) (x : Stored) (rest : List ℕ) → lone bytes ≡ got x rest
+pub lone-on : (alias : ℕ → ℕ) (bytes : List ℕ) (x : Stored) (rest : List ℕ) → lone alias bytes ≡ got x rest
     → (x .own < length (x .roster)) × ((q : ℕ) → x .mourned q ≡ true → q < length (x .roster))
-lone-on bytes x rest e =
-    let w : Whole bytes x rest = stored-back bytes x rest (lone-back bytes x rest e .0) in
+lone-on alias bytes x rest e =
+    let w : Whole alias bytes x rest = stored-back alias bytes x rest (lone-back alias bytes x rest e .0) in
     (w .heading .own-on, w .mourning .on)
 
 -- ---- a buffer with some bytes put in

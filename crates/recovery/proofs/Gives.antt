@@ -1,10 +1,11 @@
 -- What each call gives, one law for each way in which the code returns. Assumes nothing.
 use mathlib.Core.Path.{_≡_, refl, sym, ap, _∙_, fun-ext}
-use mathlib.Core.Bool.{Bool, true, false, not, _&&_}
+use mathlib.Core.Bool.{Bool, true, false, not, cond, _&&_, _||_}
 use mathlib.Core.List.{List, _++_}
 use Prim.Native.Nat.{ℕ, _-_, _<_}
-use lib.ListN.{length, replicate}
-use lib.Dec.{ltb}
+use native.Mathlib.Omega.{arith}
+use lib.ListN.{length, getD, replicate}
+use lib.Dec.{eqb, ltb}
 use borrow.Author.Tests.{ltb-true, ne-eqb}
 use Rattle.places.specs.Sets.{Places, nothing, below, union, difference, with, count}
 use Rattle.places.specs.PlaceSets.{has, kept, Words, packed}
@@ -24,13 +25,16 @@ use Rattle.answers.specs.Views.{size, acceptedIn, answerOf}
 use Rattle.answers.specs.declared.Answer as declared
 use Rattle.answers.specs.declared.Answer.the-variants as B
 use Rattle.answers.proofs.Views.{size-at-most}
+use Rattle.groups.specs.declared.Giving.{Giving}
+use Rattle.groups.specs.declared.Giving.the-variants as Y
+use Rattle.groups.specs.Groups.{foundAmong, isFound, giving}
 use Rattle.recovery.proofs.Calls.{asked-is}
 use Rattle.recovery.specs.declared.Recovery.{Recovery}
 use Rattle.recovery.specs.declared.Opening.the-variants as G
 use Rattle.recovery.specs.declared.Opened.{Opened}
 use Rattle.recovery.specs.declared.Asked.{Asked}
 use Rattle.recovery.specs.declared.Asked.the-variants as A
-use Rattle.recovery.specs.Contracts.{sizeOf, acceptedOf, fresh, unopened, openedAs, opened, keeping, askedAs, asked, unmournedOf, unmournedAbsentOf, unmournedCountOf}
+use Rattle.recovery.specs.Contracts.{sizeOf, acceptedOf, fresh, unopened, openedAs, opened, keeping, askedAs, asked, unmournedOf, unmournedAbsentOf, unmournedCountOf, withSecond, gaveAs, given}
 
 -- ---- opening
 
@@ -39,14 +43,14 @@ none-packed : (e : PlaceSet) → Words e → has e ≡ nothing → e ≡ packed 
 none-packed e w h = packed-is e nothing w h
 
 pub fresh-is : (k : Kind) (s serials : List ℕ) (e : PlaceSet) (w : List ℕ) → serials ≡ s ++ replicate (128 - length s) 0 → Words e → has e ≡ nothing → w ≡ noRows
-    → record { kind = k; count = length s; serials = serials; returned = e; mourned = e; rows = w } ≡ fresh k s
+    → record { kind = k; count = length s; serials = serials; seconds = replicate 128 0; returned = e; mourned = e; rows = w } ≡ fresh k s
 unfolding fresh
-fresh-is k s serials e w p we he q = λ i. record { kind = k; count = length s; serials = p i; returned = none-packed e we he i; mourned = none-packed e we he i; rows = q i }
+fresh-is k s serials e w p we he q = λ i. record { kind = k; count = length s; serials = p i; seconds = replicate 128 0; returned = none-packed e we he i; mourned = none-packed e we he i; rows = q i }
 
 pub unopened-is : (j : ℕ) (e : PlaceSet) (w : List ℕ) → Words e → has e ≡ nothing → w ≡ noRows
-    → record { answer = G.Refused j; recovery = record { kind = Full; count = 0; serials = replicate 128 0; returned = e; mourned = e; rows = w } } ≡ unopened j
+    → record { answer = G.Refused j; recovery = record { kind = Full; count = 0; serials = replicate 128 0; seconds = replicate 128 0; returned = e; mourned = e; rows = w } } ≡ unopened j
 unfolding unopened fresh
-unopened-is j e w we he q = λ i. record { answer = G.Refused j; recovery = record { kind = Full; count = 0; serials = replicate 128 0; returned = none-packed e we he i; mourned = none-packed e we he i; rows = q i } }
+unopened-is j e w we he q = λ i. record { answer = G.Refused j; recovery = record { kind = Full; count = 0; serials = replicate 128 0; seconds = replicate 128 0; returned = none-packed e we he i; mourned = none-packed e we he i; rows = q i } }
 
 pub opened-sound : (k : Kind) (s : List ℕ) (l : Listed) → l ≡ listed s → l ≡ L.Sound → record { answer = G.Opened; recovery = fresh k s } ≡ openedAs k s (listed s)
 unfolding openedAs
@@ -72,16 +76,37 @@ opened-unknown kind s a b = rw (ne-eqb kind 1 a, ne-eqb kind 2 b)
 
 pub keep-is : (r : Recovery) (p : ℕ) (m w g : PlaceSet) (t : List ℕ) → Words m → Words w → Words g → has w ≡ kept (with p (has (r .returned)))
     → has g ≡ union (has (r .mourned)) (has m) → t ≡ withRow (r .rows) p m
-    → record { kind = r .kind; count = r .count; serials = r .serials; returned = w; mourned = g; rows = t } ≡ keeping r p (has m)
+    → record { kind = r .kind; count = r .count; serials = r .serials; seconds = r .seconds; returned = w; mourned = g; rows = t } ≡ keeping r p (has m)
 unfolding keeping
 keep-is r p m w g t hm hw hg e f q = λ i. record {
   kind = r .kind;
   count = r .count;
   serials = r .serials;
+  seconds = r .seconds;
   returned = packed-is w (with p (has (r .returned))) hw e i;
   mourned = packed-is g (union (has (r .mourned)) (has m)) hg (sym (kept-has g) ∙ ap kept f) i;
   rows = (q ∙ ap (withRow (r .rows) p) (packed-is m (has m) hm (sym (kept-has m)))) i;
 }
+
+-- ---- giving
+
+module _ (r : Recovery) (p x : ℕ) (v : Giving) (e : v ≡ giving (r .count) (r .serials) (r .seconds) p x) where
+  pub gave-given : (s : Recovery) → v ≡ Y.Given → s ≡ withSecond r p x → record { answer = Y.Given; recovery = s } ≡ given r p x
+  unfolding given gaveAs
+  gave-given s a f = rw (f, ← e, a)
+
+  pub gave-refused : (j : ℕ) → v ≡ Y.Refused j → record { answer = Y.Refused j; recovery = r } ≡ given r p x
+  unfolding given gaveAs
+  gave-refused j a = rw (← e, a)
+  -- only a place of the roster is given one
+
+pub gave-on : (count : ℕ) (serials seconds : List ℕ) (p x : ℕ) (v : Giving) → v ≡ giving count serials seconds p x → v ≡ Y.Given → p < 128
+unfolding giving
+gave-on count serials seconds p x v e a = go (ltb p (size count)) refl (sym e ∙ a)
+  where
+    go : (t : Bool) → ltb p (size count) ≡ t → cond t (cond (eqb x 0) (Y.Refused 4) (cond (isFound (foundAmong count serials seconds x) || not (eqb (getD seconds p 0) 0)) (Y.Refused 16) Y.Given)) (Y.Refused 12) ≡ Y.Given → p < 128
+    go true t h = let l : p < size count = ltb-true p (size count) t in omega (arith, size-at-most count)
+    go false t h = let z : _≡_ {A = ℕ} 0 1 = cc in absurd (omega arith)
 
 -- ---- asking
 

@@ -3,11 +3,11 @@
 use mathlib.Core.Path.{_≡_, refl, sym, ap, ap₂, _∙_, fun-ext}
 use mathlib.Core.Bool.{Bool, true, false, cond, _&&_, _||_, and-false}
 use mathlib.Core.List.{List, _++_}
-use Prim.Native.Nat.{ℕ, _-_, _*_, _<_, _≤_}
+use Prim.Native.Nat.{ℕ, _+_, _-_, _*_, _<_, _≤_}
 use native.Mathlib.Omega.{arith}
 use native.Mathlib.Decide.{decLt}
-use lib.ListN.{length, take, replicate}
-use lib.Seq.{take-append-seam}
+use lib.ListN.{length, set, take, replicate, length-set, length-replicate, replicate-append-replicate}
+use lib.Seq.{take-append-seam, take-at, take-set-lt, set-append-left}
 use lib.Dec.{eqb, ltb, leb}
 use borrow.Author.Tests.{eqb-true, eqb-false, lt-ltb, le-leb, ltb-true, leb-true, ne-eqb}
 use Rattle.places.specs.Sets.{Places, nothing, below, union, difference, with, any, count, lowest}
@@ -27,7 +27,7 @@ use Rattle.answers.specs.Views.{size, acceptedIn}
 use Rattle.shows.specs.Shows.{replaced}
 use Rattle.shows.specs.declared.Showing.the-variants as S
 use Rattle.recovery.specs.declared.Recovery.{Recovery}
-use Rattle.recovery.specs.Contracts.{sizeOf, rosterOf, acceptedOf, holding, fresh, keeping, shown, unmournedOf, unmournedAbsentOf, unmournedCountOf}
+use Rattle.recovery.specs.Contracts.{sizeOf, rosterOf, secondsOf, acceptedOf, holding, fresh, keeping, shown, unmournedOf, unmournedAbsentOf, unmournedCountOf, withSecond}
 use Rattle.recovery.proofs.Calls.{shown-both, unmourned-is}
 
 -- ---- any recovery
@@ -66,11 +66,34 @@ module _ (k : Kind) (s : List ℕ) where
       no-row : (p q : ℕ) → ltb q n && rowsOf noRows p q ≡ false
       no-row p q = ap (λ (S : Places). ltb q n && S q) (rows-of p) ∙ and-false (ltb q n)
 
-  -- it holds no record
-  pub fresh-holds : fresh k s ≡ holding k s none
-  unfolding fresh holding mourned recorded
-  fresh-holds = ap₂ (λ (M : Row) (w : List ℕ). record { kind = k; count = length s; serials = s ++ replicate (128 - length s) 0; returned = packed nothing; mourned = packed M; rows = w })
-      (fun-ext (λ q. sym (none-any (length s) (λ p. recorded none p q) (λ p l. refl)))) (sym no-table)
+  module _ (few : length s ≤ 128) where
+    -- no place has a second serial
+    pub fresh-seconds : secondsOf (fresh k s) ≡ replicate (length s) 0
+    unfolding secondsOf sizeOf size fresh
+    fresh-seconds =
+        let e : length s + (128 - length s) ≡ 128 = omega arith in
+        ap (λ (b : Bool). take (cond b (length s) 128) (replicate 128 0)) (le-leb (length s) 128 few)
+        ∙ ap (λ (n : ℕ). take (length s) (replicate n 0)) (sym e)
+        ∙ ap (take (length s)) (sym (replicate-append-replicate (length s) (128 - length s) 0))
+        ∙ take-at (replicate (length s) 0) (replicate (128 - length s) 0) (length s) (length-replicate (length s) 0)
+
+    -- and it holds no record
+    pub fresh-holds : fresh k s ≡ holding k s (replicate (length s) 0) none
+    unfolding fresh holding mourned recorded
+    fresh-holds = λ i. record {
+      kind = k;
+      count = length s;
+      serials = s ++ replicate (128 - length s) 0;
+      seconds = zeros i;
+      returned = packed nothing;
+      mourned = packed (λ q. sym (none-any (length s) (λ p. recorded none p q) (λ p l. refl)) i);
+      rows = sym no-table i;
+    }
+      where
+        zeros : replicate {A = ℕ} 128 0 ≡ replicate (length s) 0 ++ replicate (128 - length (replicate {A = ℕ} (length s) 0)) 0
+        zeros =
+            let e : length s + (128 - length (replicate {A = ℕ} (length s) 0)) ≡ 128 = omega (arith, length-replicate {A = ℕ} (length s) 0) in
+            sym (replicate-append-replicate (length s) (128 - length (replicate {A = ℕ} (length s) 0)) 0 ∙ ap (λ (n : ℕ). replicate n 0) e)
 
 -- ---- one that keeps a record
 
@@ -114,7 +137,8 @@ module _ (r : Recovery) (p : ℕ) (M : Row) where
 
 pub record Held (k : Kind) (roster : List ℕ) (r : Recovery) : Type 0 where
   pub few : length roster ≤ 128
-  pub is : r ≡ holding k roster (acceptedOf r)
+  pub long : length (secondsOf r) ≡ length roster
+  pub is : r ≡ holding k roster (secondsOf r) (acceptedOf r)
 
 module _ {k : Kind} {roster : List ℕ} {r : Recovery} (h : Held k roster r) where
   pub held-kind : r .kind ≡ k
@@ -174,12 +198,13 @@ module _ {k : Kind} {roster : List ℕ} {r : Recovery} (h : Held k roster r) whe
       go p (no l) = table-past (recorded A) p (omega arith) ∙ fun-ext (λ q. sym (is-false (recorded A p q) (λ e. l (small p q e .0))))
 
   -- a new record joins the others
-  pub keeping-holds : (p : ℕ) (M : Row) → acceptedOf r .returned p ≡ false → p < length roster → keeping r p M ≡ holding k roster (lay (acceptedOf r) p M)
+  pub keeping-holds : (p : ℕ) (M : Row) → acceptedOf r .returned p ≡ false → p < length roster → keeping r p M ≡ holding k roster (secondsOf r) (lay (acceptedOf r) p M)
   unfolding keeping holding
   keeping-holds p M absent on = λ i. record {
     kind = held-kind i;
     count = held-count i;
     serials = h .is i .serials;
+    seconds = h .is i .seconds;
     returned = packed (with p (held-returned i));
     mourned = named i;
     rows = table i;
@@ -193,6 +218,32 @@ module _ {k : Kind} {roster : List ℕ} {r : Recovery} (h : Held k roster r) whe
 
       table : withRow (r .rows) p (packed M) ≡ tableOf (recorded (lay A p M))
       table = ap (λ (r : Recovery). withRow (r .rows) p (packed M)) (h .is) ∙ with-table (recorded A) p M (omega (arith, h .few)) ∙ ap tableOf (sym (fun-ext (laid-recorded A p M)))
+
+  -- so does a second serial
+  module _ (p x : ℕ) (on : p < length roster) where
+    pub second-given : secondsOf (withSecond r p x) ≡ set (secondsOf r) p x
+    unfolding secondsOf sizeOf withSecond
+    second-given = take-set-lt (sizeOf r) (r .seconds) p x (rw held-size on)
+
+    pub second-holds : withSecond r p x ≡ holding k roster (set (secondsOf r) p x) (acceptedOf r)
+    unfolding withSecond holding
+    second-holds = λ i. record {
+      kind = held-kind i;
+      count = held-count i;
+      serials = h .is i .serials;
+      seconds = joined i;
+      returned = h .is i .returned;
+      mourned = h .is i .mourned;
+      rows = h .is i .rows;
+    }
+      where
+        S : List ℕ
+        S = secondsOf r
+
+        joined : set (r .seconds) p x ≡ set S p x ++ replicate (128 - length (set S p x)) 0
+        joined =
+            ap (λ (r : Recovery). set (r .seconds) p x) (h .is) ∙ set-append-left S (replicate (128 - length S) 0) p x (omega (arith, h .long))
+            ∙ ap (λ (n : ℕ). set S p x ++ replicate (128 - n) 0) (sym (length-set S p x))
 
   -- ---- its calls: what they give is the rule's
 

@@ -14,6 +14,7 @@ use Rattle.histories.specs.declared.Kind.{Kind}
 use Rattle.histories.specs.Histories.{History, Accepted, Fits}
 use Rattle.histories.specs.Rule.{recorded, mourned}
 use Rattle.histories.proofs.Fewer.{Within, fits-fewer, last-more, not-last-more, decided-more}
+use Rattle.rosters.specs.Seconds.{countsAs}
 use Rattle.rows.specs.Rows.{tableOf}
 use Rattle.records.specs.Layout.{Stored, lone}
 use Rattle.shows.specs.declared.Showing.{Showing}
@@ -24,14 +25,14 @@ use Rattle.replies.specs.declared.Reply.the-variants as O
 use Rattle.recovery.specs.declared.Recovery.{Recovery}
 use Rattle.recovery.specs.declared.Asked.{Asked}
 use Rattle.recovery.specs.declared.Asked.the-variants as A
-use Rattle.recovery.specs.Contracts.{acceptedOf, holding, opened, offered, asked, shown, settledOf}
+use Rattle.recovery.specs.Contracts.{secondsOf, acceptedOf, holding, opened, offered, asked, shown, settledOf}
 use Rattle.recovery.specs.Demand as D
 use Rattle.recovery.specs.Demand.{Free, Call, offer, ask, show, whole, says, lent, OfGroup}
-use Rattle.recovery.specs.Run.{offerSays, askedSays, showingSays, shownGives, outcome, left, reached}
+use Rattle.recovery.specs.Run.{offerSays, askedSays, showingSays, shownGives, outcome, ledgerOf, left, reached}
 use Rattle.recovery.specs.Run as run
 use Rattle.recovery.specs.Later.{Stays, offers, IsAccepted, Accepts, all, next}
 use Rattle.recovery.proofs.Demand.{Good, step, good-next, good-after, good-left}
-use Rattle.recovery.proofs.Dictated.{within-left, grows, last-iff, not-last-iff, decided-elim, decided-intro, settled-iff, same-record, Agrees, agrees-accepted, Enters, accepted-enters}
+use Rattle.recovery.proofs.Dictated.{within-left, offers-none, grows, last-iff, not-last-iff, decided-elim, decided-intro, settled-iff, same-record, Agrees, agrees-accepted, Enters, accepted-enters}
 
 -- ---- lists of calls
 
@@ -121,7 +122,7 @@ module _ {k : Kind} {roster : List ℕ} {r : Recovery} (g : Good k roster r) (by
   offered-good = good-next g (offer bytes)
 
   -- one that was accepted
-  offered-enters : IsAccepted (offered r bytes .answer) → Enters k roster (acceptedOf r) (acceptedOf (offered r bytes .recovery)) bytes
+  offered-enters : IsAccepted (offered r bytes .answer) → Enters k roster (ledgerOf r) (ledgerOf (offered r bytes .recovery)) bytes
   unfolding outcome run.next
   offered-enters a = accepted-enters (step g (offer bytes)) (says-accepted (offered r bytes .answer) a)
 
@@ -129,36 +130,41 @@ module _ {k : Kind} {roster : List ℕ} {r : Recovery} (g : Good k roster r) (by
   unfolding run.next
   offered-within = grows (step g (offer bytes))
 
+  -- and no second serial is given by it
+  offered-seconds : secondsOf (offered r bytes .recovery) ≡ secondsOf r
+  unfolding run.next
+  offered-seconds = offers-none (step g (offer bytes))
+
   -- one that agrees with a history that fits
-  offered-agrees : {H : History} → Fits k (length roster) (acceptedOf r) H → Agrees k roster H bytes
+  offered-agrees : {H : History} → Fits k (length roster) (acceptedOf r) H → Agrees k roster (secondsOf r) H bytes
       → IsAccepted (offered r bytes .answer) × Fits k (length roster) (acceptedOf (offered r bytes .recovery)) H
   unfolding outcome run.next
   offered-agrees f a = let w = agrees-accepted f a (step g (offer bytes)) in (accepted-said (offered r bytes .answer) (w .0), w .1)
 
 -- records that all agree with one history that fits are all accepted, and it fits what is left
 pub agreeing-accepted : {k : Kind} {roster : List ℕ} {r : Recovery} {H : History} → Good k roster r → Fits k (length roster) (acceptedOf r) H
-    → (xs : List (List ℕ)) → ((x : List ℕ) → List·Memᴰ x xs → Agrees k roster H x) → Accepts r xs × Fits k (length roster) (acceptedOf (left r (offers xs))) H
+    → (xs : List (List ℕ)) → ((x : List ℕ) → List·Memᴰ x xs → Agrees k roster (secondsOf r) H x) → Accepts r xs × Fits k (length roster) (acceptedOf (left r (offers xs))) H
 unfolding left run.next
 agreeing-accepted g f [] a = (all, f)
-agreeing-accepted g f (x ∷ xs) a =
+agreeing-accepted {k} {roster} {H = H} g f (x ∷ xs) a =
     let w = offered-agrees g x f (a x (List·Memᴰ·head refl)) in
-    let v = agreeing-accepted (offered-good g x) (w .1) xs (λ y m. a y (List·Memᴰ·tail m)) in
+    let v = agreeing-accepted (offered-good g x) (w .1) xs (λ y m. subst (λ (s : List ℕ). Agrees k roster s H y) (sym (offered-seconds g x)) (a y (List·Memᴰ·tail m))) in
     (next (w .0) (v .0), v .1)
 
 -- records that are all accepted agree with every history that fits what is left, and it fits what was there before
 abbrev Agreeing : Kind → List ℕ → History → Recovery → List (List ℕ) → Type 0
-Agreeing k roster H r xs = Fits k (length roster) (acceptedOf r) H × ((x : List ℕ) → List·Memᴰ x xs → Agrees k roster H x)
+Agreeing k roster H r xs = Fits k (length roster) (acceptedOf r) H × ((x : List ℕ) → List·Memᴰ x xs → Agrees k roster (secondsOf r) H x)
 
 agree-next : {k : Kind} {roster : List ℕ} {r : Recovery} {H : History} {bytes : List ℕ} {xs : List (List ℕ)} → Good k roster r → IsAccepted (offered r bytes .answer)
     → Agreeing k roster H (offered r bytes .recovery) xs → Agreeing k roster H r (bytes ∷ xs)
 agree-next {k} {roster} {r} {H} {bytes = b} {xs} g a w = (fits-fewer (offered-within g b) (w .0), λ x m. at x (List·Memᴰ·cases-cons m))
   where
-    e : Enters k roster (acceptedOf r) (acceptedOf (offered r b .recovery)) b
+    e : Enters k roster (ledgerOf r) (ledgerOf (offered r b .recovery)) b
     e = offered-enters g b a
 
-    at : (x : List ℕ) → (x ≡ b) ⊎ List·Memᴰ x xs → Agrees k roster H x
-    at x (inl h) = subst (Agrees k roster H) (sym h) (record { stored = e .stored; of-group = e .of-group; row = fun-ext (w .0 .recorded (e .stored .own) (e .back)) ∙ e .row })
-    at x (inr m) = w .1 x m
+    at : (x : List ℕ) → (x ≡ b) ⊎ List·Memᴰ x xs → Agrees k roster (secondsOf r) H x
+    at x (inl h) = subst (Agrees k roster (secondsOf r) H) (sym h) (record { stored = e .stored; of-group = e .of-group; row = fun-ext (w .0 .recorded (e .stored .own) (e .back)) ∙ e .row })
+    at x (inr m) = subst (λ (s : List ℕ). Agrees k roster s H x) (offered-seconds g b) (w .1 x m)
 
 accepted-agree : {k : Kind} {roster : List ℕ} {r : Recovery} {H : History} {xs : List (List ℕ)} → Good k roster r → Accepts r xs → Fits k (length roster) (acceptedOf (left r (offers xs))) H
     → Agreeing k roster H r xs
@@ -167,41 +173,41 @@ accepted-agree g all f = (f, λ x m. absurd (List·Memᴰ·not-nil m))
 accepted-agree g (next {bytes = b} a rest) f = agree-next g a (accepted-agree (offered-good g b) rest f)
 
 -- p is back by one of these records
-record BackBy (k : Kind) (roster : List ℕ) (xs : List (List ℕ)) (p : ℕ) : Type 0 where
+record BackBy (k : Kind) (roster seconds : List ℕ) (xs : List (List ℕ)) (p : ℕ) : Type 0 where
   bytes : List ℕ
   among : List·Memᴰ bytes xs
   stored : Stored
-  of-group : OfGroup k roster bytes stored
+  of-group : OfGroup k roster seconds bytes stored
   own : p ≡ stored .own
 
-back-among : {k : Kind} {roster : List ℕ} {xs ys : List (List ℕ)} {p : ℕ} → ((x : List ℕ) → List·Memᴰ x xs → List·Memᴰ x ys) → BackBy k roster xs p → BackBy k roster ys p
+back-among : {k : Kind} {roster seconds : List ℕ} {xs ys : List (List ℕ)} {p : ℕ} → ((x : List ℕ) → List·Memᴰ x xs → List·Memᴰ x ys) → BackBy k roster seconds xs p → BackBy k roster seconds ys p
 back-among sub w = record { bytes = w .bytes; among = sub (w .bytes) (w .among); stored = w .stored; of-group = w .of-group; own = w .own }
 
 -- who is back then: who was before, and those whose records they are
 accepted-back : {k : Kind} {roster : List ℕ} {r : Recovery} {xs : List (List ℕ)} → Good k roster r → Accepts r xs → (p : ℕ) → acceptedOf (left r (offers xs)) .returned p ≡ true
-    → (acceptedOf r .returned p ≡ true) ⊎ BackBy k roster xs p
+    → (acceptedOf r .returned p ≡ true) ⊎ BackBy k roster (secondsOf r) xs p
 unfolding left run.next
 accepted-back g all p e = inl e
 accepted-back {k} {roster} {r} g (next {bytes = b} {xs = xs} a rest) p e = go (accepted-back (offered-good g b) rest p e)
   where
-    w : Enters k roster (acceptedOf r) (acceptedOf (offered r b .recovery)) b
+    w : Enters k roster (ledgerOf r) (ledgerOf (offered r b .recovery)) b
     w = offered-enters g b a
 
-    new : (acceptedOf r .returned p ≡ true) ⊎ (p ≡ w .stored .own) → (acceptedOf r .returned p ≡ true) ⊎ BackBy k roster (b ∷ xs) p
+    new : (acceptedOf r .returned p ≡ true) ⊎ (p ≡ w .stored .own) → (acceptedOf r .returned p ≡ true) ⊎ BackBy k roster (secondsOf r) (b ∷ xs) p
     new (inl h) = inl h
     new (inr h) = inr (record { bytes = b; among = List·Memᴰ·head refl; stored = w .stored; of-group = w .of-group; own = h })
 
-    go : (acceptedOf (offered r b .recovery) .returned p ≡ true) ⊎ BackBy k roster xs p → (acceptedOf r .returned p ≡ true) ⊎ BackBy k roster (b ∷ xs) p
+    go : (acceptedOf (offered r b .recovery) .returned p ≡ true) ⊎ BackBy k roster (secondsOf (offered r b .recovery)) xs p → (acceptedOf r .returned p ≡ true) ⊎ BackBy k roster (secondsOf r) (b ∷ xs) p
     go (inl h) = new (w .only p h)
-    go (inr h) = inr (back-among (λ x m. List·Memᴰ·tail m) h)
+    go (inr h) = inr (subst (λ (s : List ℕ). BackBy k roster s (b ∷ xs) p) (offered-seconds g b) (back-among (λ x m. List·Memᴰ·tail m) h))
 
-back-accepted : {k : Kind} {roster : List ℕ} {r : Recovery} {xs : List (List ℕ)} → Good k roster r → Accepts r xs → (p : ℕ) → BackBy k roster xs p → acceptedOf (left r (offers xs)) .returned p ≡ true
+back-accepted : {k : Kind} {roster : List ℕ} {r : Recovery} {xs : List (List ℕ)} → Good k roster r → Accepts r xs → (p : ℕ) → BackBy k roster (secondsOf r) xs p → acceptedOf (left r (offers xs)) .returned p ≡ true
 unfolding left run.next
 back-accepted g all p v = absurd (List·Memᴰ·not-nil (v .among))
 back-accepted {k} {roster} {r} g (next {bytes = b} {xs = xs} a rest) p v =
-    go (λ m. back-accepted (offered-good g b) rest p (record { bytes = v .bytes; among = m; stored = v .stored; of-group = v .of-group; own = v .own })) (List·Memᴰ·cases-cons (v .among))
+    go (λ m. back-accepted (offered-good g b) rest p (subst (λ (s : List ℕ). BackBy k roster s xs p) (sym (offered-seconds g b)) (record { bytes = v .bytes; among = m; stored = v .stored; of-group = v .of-group; own = v .own }))) (List·Memᴰ·cases-cons (v .among))
   where
-    w : Enters k roster (acceptedOf r) (acceptedOf (offered r b .recovery)) b
+    w : Enters k roster (ledgerOf r) (ledgerOf (offered r b .recovery)) b
     w = offered-enters g b a
 
     Back : Type 0
@@ -209,30 +215,37 @@ back-accepted {k} {roster} {r} g (next {bytes = b} {xs = xs} a rest) p v =
 
     go : (List·Memᴰ (v .bytes) xs → Back) → (v .bytes ≡ b) ⊎ List·Memᴰ (v .bytes) xs → Back
     go then (inl q) =
-        let own : p ≡ w .stored .own = v .own ∙ ap (λ (y : Stored). y .own) (same-record (v .of-group .reads) (ap lone q ∙ w .of-group .reads)) in
+        let own : p ≡ w .stored .own = v .own ∙ ap (λ (y : Stored). y .own) (same-record (v .of-group .reads) (ap (lone (countsAs roster (secondsOf r))) q ∙ w .of-group .reads)) in
         within-left (offered-good g b) (offers xs) .returned p (rw own (w .back))
     go then (inr m) = then m
 
 -- ---- the same records leave the same
 
--- two recoveries that hold their records are equal where the same are back with the same rows
+-- two recoveries that hold their records and second serials are equal where these are, and the same are back with the same rows
 module _ {k : Kind} {roster : List ℕ} {r s : Recovery} (g : Good k roster r) (h : Good k roster s) where
-  rows-equal : acceptedOf r .returned ≡ acceptedOf s .returned → recorded (acceptedOf r) ≡ recorded (acceptedOf s) → r ≡ s
+  rows-equal : secondsOf r ≡ secondsOf s → acceptedOf r .returned ≡ acceptedOf s .returned → recorded (acceptedOf r) ≡ recorded (acceptedOf s) → r ≡ s
   unfolding holding mourned
-  rows-equal b e = g .held .is ∙ between ∙ sym (h .held .is)
+  rows-equal d b e = g .held .is ∙ between ∙ sym (h .held .is)
     where
-      between : holding k roster (acceptedOf r) ≡ holding k roster (acceptedOf s)
+      between : holding k roster (secondsOf r) (acceptedOf r) ≡ holding k roster (secondsOf s) (acceptedOf s)
       between = λ i. record {
         kind = k;
         count = length roster;
         serials = roster ++ replicate (128 - length roster) 0;
+        seconds = d i ++ replicate (128 - length (d i)) 0;
         returned = packed (b i);
         mourned = packed (λ q. any (length roster) (λ p. e i p q));
         rows = tableOf (e i);
       }
 
-  records-equal : acceptedOf r ≡ acceptedOf s → r ≡ s
-  records-equal e = g .held .is ∙ ap (holding k roster) e ∙ sym (h .held .is)
+  ledgers-equal : secondsOf r ≡ secondsOf s → acceptedOf r ≡ acceptedOf s → r ≡ s
+  ledgers-equal d e = g .held .is ∙ ap₂ (holding k roster) d e ∙ sym (h .held .is)
+
+-- records give no second serial
+offers-left : {k : Kind} {roster : List ℕ} {r : Recovery} → Good k roster r → (xs : List (List ℕ)) → secondsOf (left r (offers xs)) ≡ secondsOf r
+unfolding left run.next
+offers-left g [] = refl
+offers-left g (x ∷ xs) = offers-left (offered-good g x) xs ∙ offered-seconds g x
 
 module _ {k : Kind} {roster : List ℕ} {r : Recovery} (g : Good k roster r) {xs ys : List (List ℕ)} where
   -- of records that are all accepted, any are accepted in any order, however often
@@ -245,7 +258,7 @@ module _ {k : Kind} {roster : List ℕ} {r : Recovery} (g : Good k roster r) {xs
   -- and leave the same as those, where none is missing
   same-left : Accepts r xs → ((x : List ℕ) → List·Memᴰ x xs ↔ List·Memᴰ x ys) → left r (offers xs) ≡ left r (offers ys)
   unfolding recorded
-  same-left a same = rows-equal u v (fun-ext both) (fun-ext (λ p. fun-ext (λ q. row p q)))
+  same-left a same = rows-equal u v (offers-left g xs ∙ sym (offers-left g ys)) (fun-ext both) (fun-ext (λ p. fun-ext (λ q. row p q)))
     where
       u : Good k roster (left r (offers xs))
       u = good-after g (offers xs)
@@ -265,11 +278,11 @@ module _ {k : Kind} {roster : List ℕ} {r : Recovery} (g : Good k roster r) {xs
       other : Accepts r ys × Fits k (length roster) Y (u .some)
       other = agreeing-accepted g (agree .0) ys (λ x m. agree .1 x (same x .1 m))
 
-      to : (p : ℕ) → (acceptedOf r .returned p ≡ true) ⊎ BackBy k roster xs p → Y .returned p ≡ true
+      to : (p : ℕ) → (acceptedOf r .returned p ≡ true) ⊎ BackBy k roster (secondsOf r) xs p → Y .returned p ≡ true
       to p (inl e) = within-left g (offers ys) .returned p e
       to p (inr w) = back-accepted g (other .0) p (back-among (λ x. same x .0) w)
 
-      from : (p : ℕ) → (acceptedOf r .returned p ≡ true) ⊎ BackBy k roster ys p → X .returned p ≡ true
+      from : (p : ℕ) → (acceptedOf r .returned p ≡ true) ⊎ BackBy k roster (secondsOf r) ys p → X .returned p ≡ true
       from p (inl e) = within-left g (offers xs) .returned p e
       from p (inr w) = back-accepted g a p (back-among (λ x. same x .1) w)
 
@@ -320,7 +333,7 @@ module _ {kind : ℕ} {roster : List ℕ} (f : Free kind roster) (cs : List Call
     pub order-leaves-no-trace : List·Permᴰ xs ys → Accepts (reached kind roster cs) xs → reached kind roster (cs ++ offers xs) ≡ reached kind roster (cs ++ offers ys)
     order-leaves-no-trace p a = left-anyhow a (λ x. (permuted p, permuted (Permᴰ·symm p)))
 
--- whatever was called: where the same records are accepted, the recoveries are equal
-pub no-trace : {kind : ℕ} {roster : List ℕ} → Free kind roster → (cs ds : List Call) → acceptedOf (reached kind roster cs) ≡ acceptedOf (reached kind roster ds)
-    → reached kind roster cs ≡ reached kind roster ds
-no-trace f cs ds = records-equal (good-left f cs) (good-left f ds)
+-- whatever was called: where the same second serials were given and the same records are accepted, the recoveries are equal
+pub no-trace : {kind : ℕ} {roster : List ℕ} → Free kind roster → (cs ds : List Call) → secondsOf (reached kind roster cs) ≡ secondsOf (reached kind roster ds)
+    → acceptedOf (reached kind roster cs) ≡ acceptedOf (reached kind roster ds) → reached kind roster cs ≡ reached kind roster ds
+no-trace f cs ds = ledgers-equal (good-left f cs) (good-left f ds)

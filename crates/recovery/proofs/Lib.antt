@@ -6,6 +6,7 @@ pub mod Acceptance
 pub mod Opens
 pub mod Keeps
 pub mod Facts
+pub mod Swaps
 pub mod Calls
 pub mod Demand
 pub mod Dictated

@@ -16,11 +16,12 @@ use Rattle.records.specs.Records.{readingOf, readingLone, sameList, rosterThere
 use Rattle.records.proofs.Layouts.{stored-back}
 use Rattle.records.proofs.Trips.{lone-back, serials-read, roster-within}
 use Rattle.answers.specs.Views.{size}
+use Rattle.groups.specs.Groups.{aliasIn}
 use Rattle.replies.specs.declared.Reply.{Reply}
 use Rattle.replies.specs.declared.Reply.the-variants as O
 use Rattle.replies.specs.Replies.{sameKind, entering, judgement}
 use Rattle.recovery.specs.declared.Recovery.{Recovery}
-use Rattle.recovery.specs.Contracts.{sizeOf, rosterOf, ofGroup, saying, keeping, answered, entered, judged, offeredAs, offered}
+use Rattle.recovery.specs.Contracts.{sizeOf, rosterOf, secondsOf, aliasOf, ofGroup, saying, keeping, answered, entered, judged, offeredAs, offered}
 use Rattle.recovery.proofs.Facts.{lone-on}
 
 pub answered-taken : (r : Recovery) (p : ℕ) (M : Row) (a : Reply) (s : Recovery) → a ≡ O.Taken → s ≡ keeping r p M → record { answer = O.Taken; recovery = s } ≡ answered r p M a
@@ -36,20 +37,20 @@ unfolding answered
 answered-refused r p M a j e = rw e
 
 -- a record that was read: its mourned set fits two words, and its roster stands in the bytes
-module _ (b : List ℕ) (y : Stored) (rest : List ℕ) (e : lone b ≡ got y rest) where
-  here : stored (drop 0 b) ≡ got y rest
-  here = lone-back b y rest e .0
+module _ (alias : ℕ → ℕ) (b : List ℕ) (y : Stored) (rest : List ℕ) (e : lone alias b ≡ got y rest) where
+  here : stored alias (drop 0 b) ≡ got y rest
+  here = lone-back alias b y rest e .0
 
   mourned-is : has (packed (y .mourned)) ≡ y .mourned
   mourned-is =
       has-packed (y .mourned)
-      ∙ kept-all (y .mourned) (λ q t. omega (arith, lone-on b y rest e .1 q t, stored-back b y rest (lone-back b y rest e .0) .heading .sound .few))
+      ∙ kept-all (y .mourned) (λ q t. omega (arith, lone-on alias b y rest e .1 q t, stored-back alias b y rest (lone-back alias b y rest e .0) .heading .sound .few))
 
   roster-there : (l : List ℕ) → rosterIs b 6 (length (y .roster)) l ≡ sameList (y .roster) l
   unfolding rosterIs rosterThere
   roster-there l =
       ap₂ (λ (t : Bool) (s : List ℕ). t && sameList s l)
-      (le-leb (6 + length (y .roster) * 4) (length b) (omega (arith, roster-within b 0 y rest here))) (serials-read b 0 y rest here)
+      (le-leb (6 + length (y .roster) * 4) (length b) (omega (arith, roster-within alias b 0 y rest here))) (serials-read alias b 0 y rest here)
 
   judged-is : (r : Recovery) (all : ℕ)
       → answered r (y .own) (has (packed (y .mourned)))
@@ -67,21 +68,21 @@ module _ (b : List ℕ) (y : Stored) (rest : List ℕ) (e : lone b ≡ got y res
       go true = refl
       go false = sym (answered-refused r (y .own) (y .mourned) (O.Refused 9) 9 refl)
 
-pub offered-read : (r : Recovery) (b : List ℕ) (x : Record) → readingLone b ≡ Read x
+pub offered-read : (r : Recovery) (b : List ℕ) (x : Record) → readingLone (aliasIn (r .count) (r .serials) (r .seconds)) b ≡ Read x
     → answered r (x .own .0) (has (x .mourned)) (judgement (r .kind) (r .count) (r .serials) (has (r .returned)) (r .rows) b x) ≡ offered r b
-unfolding readingLone readingOf offered offeredAs
-offered-read r b x e = go (lone b) refl e
+unfolding readingLone readingOf offered offeredAs aliasOf rosterOf secondsOf sizeOf aliasIn
+offered-read r b x e = go (lone (aliasOf r) b) refl e
   where
-    go : (p : Parsed Stored) → lone b ≡ p → readingOf (length b) 0 p ≡ Read x
+    go : (p : Parsed Stored) → lone (aliasOf r) b ≡ p → readingOf (length b) 0 p ≡ Read x
         → answered r (x .own .0) (has (x .mourned)) (judgement (r .kind) (r .count) (r .serials) (has (r .returned)) (r .rows) b x) ≡ offeredAs r p
     go (got y rest) f g =
         let h : record { kind = y .kind; own = record { 0 = y .own }; roster = 6; count = length (y .roster); mourned = packed (y .mourned); next = length b - length rest } ≡ x = cc in
-        subst (λ (x : Record). answered r (x .own .0) (has (x .mourned)) (judgement (r .kind) (r .count) (r .serials) (has (r .returned)) (r .rows) b x) ≡ judged r y) h (judged-is b y rest f r (length b - length rest))
+        subst (λ (x : Record). answered r (x .own .0) (has (x .mourned)) (judgement (r .kind) (r .count) (r .serials) (has (r .returned)) (r .rows) b x) ≡ judged r y) h (judged-is (aliasOf r) b y rest f r (length b - length rest))
     go (refused j) f g = let z : _≡_ {A = ℕ} 0 1 = cc in absurd (omega arith)
 
-pub offered-unread : (r : Recovery) (b : List ℕ) (j : ℕ) → readingLone b ≡ Refused j → saying r (O.Refused j) ≡ offered r b
-unfolding readingLone readingOf offered offeredAs
-offered-unread r b j e = go (lone b) e
+pub offered-unread : (r : Recovery) (b : List ℕ) (j : ℕ) → readingLone (aliasIn (r .count) (r .serials) (r .seconds)) b ≡ Refused j → saying r (O.Refused j) ≡ offered r b
+unfolding readingLone readingOf offered offeredAs aliasOf rosterOf secondsOf sizeOf aliasIn
+offered-unread r b j e = go (lone (aliasOf r) b) e
   where
     go : (p : Parsed Stored) → readingOf (length b) 0 p ≡ Refused j → saying r (O.Refused j) ≡ offeredAs r p
     go (got y rest) g = let z : _≡_ {A = ℕ} 0 1 = cc in absurd (omega arith)

@@ -11,13 +11,12 @@ use borrow.Author.Tests.{ltb-true}
 use Rattle.places.specs.Sets.{all}
 use Rattle.places.proofs.Booleans.{and-left, and-right}
 use Rattle.places.proofs.Tests.{all-elim}
-use Rattle.histories.specs.Histories.{none}
 use Rattle.rosters.specs.Rosters.{placeOf, holds, firstRepeat, listed}
 use Rattle.rosters.proofs.Laws.{listed-sound}
 use Rattle.records.specs.Layout.{kindOf}
 use Rattle.records.proofs.Layouts.{AllBytes}
-use Rattle.recovery.specs.Demand.{Free, Outcome, says, lent, lent-one, places, number, Whole}
-use Rattle.recovery.proofs.Acceptance.{serials, group, record-101, record-104, row, first-rows, second-rows, outcomeOf, callOf, lines, listing}
+use Rattle.recovery.specs.Demand.{Free, begun, Outcome, says, lent, lent-one, places, number, Whole}
+use Rattle.recovery.proofs.Acceptance.{serials, group, record-101, record-104, record-102, row, first-rows, second-rows, outcomeOf, callOf, lines, listing}
 use Rattle.recovery.proofs.Demand.{demand-3}
 use Rattle.recovery.proofs.Single.{plain, InBytes, AllInBytes, single-whole}
 
@@ -68,14 +67,14 @@ all-in [] e = tt
 all-in (o ∷ os) e = (lends-in o (and-left (lends o) (all-lend os) e), all-in os (and-right (lends o) (all-lend os) e))
 
 listing-in : AllInBytes (map outcomeOf lines)
-unfolding lines outcomeOf group record-101 record-104 row first-rows second-rows all-lend lends bytes
+unfolding lines outcomeOf group record-101 record-104 record-102 row first-rows second-rows all-lend lends bytes
 listing-in = all-in (map outcomeOf lines) refl
 
 -- ---- and no others are dictated
 
-listing-dictated : Whole (kindOf 2) serials none (map callOf lines) (map outcomeOf lines)
-listing-dictated = subst (Whole (kindOf 2) serials none (map callOf lines)) listing (demand-3 2 serials free (map callOf lines) .1)
+listing-dictated : Whole (kindOf 2) serials (begun serials) (map callOf lines) (map outcomeOf lines)
+listing-dictated = subst (Whole (kindOf 2) serials (begun serials) (map callOf lines)) listing (demand-3 2 serials free (map callOf lines) .1)
 
-pub listing-only : {os : List Outcome} → Whole (kindOf 2) serials none (map callOf lines) os → AllInBytes os
+pub listing-only : {os : List Outcome} → Whole (kindOf 2) serials (begun serials) (map callOf lines) os → AllInBytes os
     → map (plain (length serials)) os ≡ map (plain (length serials)) (map outcomeOf lines)
 listing-only w c = single-whole (free .sound) w listing-dictated c listing-in

@@ -10,16 +10,18 @@ use lib.ListN.{length, getD, take, drop, take-append-drop}
 use Rattle.places.specs.Sets.{count}
 use Rattle.places.proofs.Booleans.{clash, both-ways}
 use Rattle.histories.specs.declared.Kind.{Kind}
-use Rattle.histories.specs.Histories.{Row, History, Accepted, none, lay, Fits, Disagree, Decided}
+use Rattle.histories.specs.Histories.{Row, History, Accepted, lay, Fits, Disagree, Decided}
 use Rattle.histories.proofs.Exact.{all-none, all-open, none-open}
 use Rattle.histories.proofs.Demand.{none-fitted}
 use Rattle.rosters.specs.Rosters.{IsRoster}
+use Rattle.rosters.specs.Seconds.{countsAs, itself}
 use Rattle.records.specs.Layout.{Parsed, got, Stored, stored, lone, layout}
 use Rattle.records.specs.Layout as L
 use Rattle.records.proofs.Layouts.{AllBytes, bytes-drop}
 use Rattle.records.proofs.Trips.{layout-read}
 use Rattle.recovery.specs.Demand as D
-use Rattle.recovery.specs.Demand.{Said, refused, Call, Outcome, says, lent, lent-one, places, number, OfGroup, Unmourned, recordIn, endIn, Dictates, faulty, foreign, repeats, differs, takes, none-fits, asked-off, asked-last, asked-not, asked-open, showed-off, showed-decided, showed-short, showed, checked-short, checked-off, checked-fits, checked-not, whole-settled, whole-open, gave-unmourned, gave-absent, gave-count, found-at, found-none, wrote-off, wrote-absent, wrote-short, wrote, Whole, end, then}
+use Rattle.recovery.specs.Demand.{Said, refused, Call, Ledger, begun, KnownSerial, AreSeconds, Outcome, says, lent, lent-one, places, number, OfGroup, Unmourned, recordIn, endIn, Dictates, faulty, foreign, repeats, differs, takes, none-fits, asked-off, asked-last, asked-not, asked-open, showed-off, showed-decided, showed-short, showed, checked-short, checked-off, checked-fits, checked-not, whole-settled, whole-open, gave-unmourned, gave-absent, gave-count, found-first, found-second, found-none, gave-off, gave-zero, gave-known, gave, wrote-off, wrote-absent, wrote-short, wrote, Whole, end, then}
+use Rattle.recovery.proofs.Swaps.{seconds-none, seconds-noted}
 
 -- ---- outcomes
 
@@ -36,7 +38,10 @@ showing D.fits = false
 showing D.fits-not = false
 showing D.settled = false
 showing D.unsettled = false
+showing D.given = false
 showing D.not-found = false
+showing (D.first-of p) = false
+showing (D.second-of p) = false
 showing (D.ends e) = false
 showing (refused j) = false
 
@@ -59,6 +64,11 @@ InBytes (number m) = Unit {0}
 abbrev pub AllInBytes : List Outcome → Type 0
 AllInBytes [] = Unit {0}
 AllInBytes (o ∷ os) = InBytes o × AllInBytes os
+
+-- the serials of a group
+pub record Sound (firsts given : List ℕ) : Type 0 where
+  pub roster : IsRoster firsts
+  pub seconds : AreSeconds firsts given
 
 -- ---- what cannot be both
 
@@ -84,12 +94,12 @@ read-clash e h = let z : _≡_ {A = ℕ} 0 1 = cc in absurd (omega arith)
 same-record : {p : Parsed Stored} {u v : List ℕ} {x y : Stored} → p ≡ got x u → p ≡ got y v → x ≡ y
 same-record e h = cc
 
-module _ {k : Kind} {roster : List ℕ} {bytes : List ℕ} where
-  group-clash : {X : Type 0} {rest : List ℕ} {x y : Stored} → lone bytes ≡ got x rest → ¬ ((x .kind ≡ k) × (x .roster ≡ roster)) → OfGroup k roster bytes y → X
+module _ {k : Kind} {roster seconds : List ℕ} {bytes : List ℕ} where
+  group-clash : {X : Type 0} {rest : List ℕ} {x y : Stored} → lone (countsAs roster seconds) bytes ≡ got x rest → ¬ ((x .kind ≡ k) × (x .roster ≡ roster)) → OfGroup k roster seconds bytes y → X
   group-clash e z s =
       absurd (z (subst (λ (x : Stored). (x .kind ≡ k) × (x .roster ≡ roster)) (same-record (s .reads) e) (s .same-kind, s .same-roster)))
 
-  module _ (A : Accepted) {x y : Stored} (s : OfGroup k roster bytes x) (t : OfGroup k roster bytes y) where
+  module _ (A : Accepted) {x y : Stored} (s : OfGroup k roster seconds bytes x) (t : OfGroup k roster seconds bytes y) where
     move-back : A .returned (x .own) ≡ true → A .returned (y .own) ≡ true
     move-back = subst (λ (x : Stored). A .returned (x .own) ≡ true) (same-record (s .reads) (t .reads))
 
@@ -120,16 +130,33 @@ same-place r {p} {q} l m e = go (decLt p q) (decLt q p)
     go (no h) (yes k) = absurd (r .no-repeat q p k l (sym e))
     go (no h) (no k) = omega arith
 
+same-second : {roster seconds : List ℕ} → AreSeconds roster seconds → {p q x : ℕ} → p < length roster → q < length roster → ¬ (x ≡ 0) → getD seconds p 0 ≡ x → getD seconds q 0 ≡ x → p ≡ q
+same-second s {p} {q} l m z d e = go (decLt p q) (decLt q p)
+  where
+    go : Dec (p < q) → Dec (q < p) → p ≡ q
+    go (yes h) k = absurd (z (sym d ∙ s .no-repeat p q h m (d ∙ sym e)))
+    go (no h) (yes k) = absurd (z (sym e ∙ s .no-repeat q p k l (e ∙ sym d)))
+    go (no h) (no k) = omega arith
+
+-- a serial is known and not 0, or it is unknown
+not-known : {X : Type 0} {roster seconds : List ℕ} {x : ℕ} → Sound roster seconds → ¬ (x ≡ 0) → KnownSerial roster seconds x → (x ≡ 0) ⊎ (¬ (KnownSerial roster seconds x)) → X
+not-known s z k (inl e) = absurd (z e)
+not-known s z k (inr n) = absurd (n k)
+
+not-new : {X K E : Type 0} → K ⊎ (¬ E) → ¬ K → E → X
+not-new (inl k) n e = absurd (n k)
+not-new (inr d) n e = absurd (d e)
+
 -- a buffer of bytes from which the record is read
 written-is : (x : Stored) (at : ℕ) (out new : List ℕ) → AllBytes new → take at new ≡ take at out → drop (at + length (layout x)) new ≡ drop (at + length (layout x)) out
-    → stored (drop at new) ≡ got x (drop (at + length (layout x)) new) → new ≡ take at out ++ (layout x ++ drop (at + length (layout x)) out)
+    → stored itself (drop at new) ≡ got x (drop (at + length (layout x)) new) → new ≡ take at out ++ (layout x ++ drop (at + length (layout x)) out)
 written-is x at out new h t d e =
     sym (take-append-drop at new) ∙ ap₂ (λ (a b : List ℕ). a ++ b) t (layout-read (drop at new) x (drop (at + length (layout x)) new) (bytes-drop at new h) e ∙ ap (λ (b : List ℕ). layout x ++ b) d)
 
 -- ---- the theorem
 
-pub single : {k : Kind} {roster : List ℕ} {A : Accepted} {H : History} → Fits k (length roster) A H → IsRoster roster
-    → {c : Call} {o₁ o₂ : Outcome} {B₁ B₂ : Accepted} → Dictates k roster A c o₁ B₁ → Dictates k roster A c o₂ B₂ → InBytes o₁ → InBytes o₂
+pub single : {k : Kind} {roster : List ℕ} {A : Ledger} {H : History} → Fits k (length roster) (A .accepted) H → Sound roster (A .seconds)
+    → {c : Call} {o₁ o₂ : Outcome} {B₁ B₂ : Ledger} → Dictates k roster A c o₁ B₁ → Dictates k roster A c o₂ B₂ → InBytes o₁ → InBytes o₂
     → (plain (length roster) o₁ ≡ plain (length roster) o₂) × (B₁ ≡ B₂)
 unfolding plain showing
 single f s (faulty e₁ l₁ m₁) (faulty e₂ l₂ m₂) c₁ c₂ = (ap (λ (j : ℕ). says (refused j)) (same-fault e₁ e₂), refl)
@@ -147,26 +174,26 @@ single f s (foreign e₁ z₁) (none-fits s₂ b₂ z₂) c₁ c₂ = group-clas
 single f s (repeats s₁ b₁ q₁) (faulty e₂ l₂ m₂) c₁ c₂ = read-clash e₂ (s₁ .reads)
 single f s (repeats s₁ b₁ q₁) (foreign e₂ z₂) c₁ c₂ = group-clash e₂ z₂ s₁
 single f s (repeats s₁ b₁ q₁) (repeats s₂ b₂ q₂) c₁ c₂ = (refl, refl)
-single {A = A} f s (repeats s₁ b₁ q₁) (differs s₂ b₂ q₂) c₁ c₂ = absurd (q₂ (move-row A s₁ s₂ q₁))
-single {A = A} f s (repeats s₁ b₁ q₁) (takes s₂ b₂ f₂) c₁ c₂ = clash (move-back A s₁ s₂ b₁) b₂
-single {A = A} f s (repeats s₁ b₁ q₁) (none-fits s₂ b₂ z₂) c₁ c₂ = clash (move-back A s₁ s₂ b₁) b₂
+single {A = A} f s (repeats s₁ b₁ q₁) (differs s₂ b₂ q₂) c₁ c₂ = absurd (q₂ (move-row (A .accepted) s₁ s₂ q₁))
+single {A = A} f s (repeats s₁ b₁ q₁) (takes s₂ b₂ f₂) c₁ c₂ = clash (move-back (A .accepted) s₁ s₂ b₁) b₂
+single {A = A} f s (repeats s₁ b₁ q₁) (none-fits s₂ b₂ z₂) c₁ c₂ = clash (move-back (A .accepted) s₁ s₂ b₁) b₂
 single f s (differs s₁ b₁ q₁) (faulty e₂ l₂ m₂) c₁ c₂ = read-clash e₂ (s₁ .reads)
 single f s (differs s₁ b₁ q₁) (foreign e₂ z₂) c₁ c₂ = group-clash e₂ z₂ s₁
-single {A = A} f s (differs s₁ b₁ q₁) (repeats s₂ b₂ q₂) c₁ c₂ = absurd (q₁ (move-row A s₂ s₁ q₂))
+single {A = A} f s (differs s₁ b₁ q₁) (repeats s₂ b₂ q₂) c₁ c₂ = absurd (q₁ (move-row (A .accepted) s₂ s₁ q₂))
 single f s (differs s₁ b₁ q₁) (differs s₂ b₂ q₂) c₁ c₂ = (refl, refl)
-single {A = A} f s (differs s₁ b₁ q₁) (takes s₂ b₂ f₂) c₁ c₂ = clash (move-back A s₁ s₂ b₁) b₂
-single {A = A} f s (differs s₁ b₁ q₁) (none-fits s₂ b₂ z₂) c₁ c₂ = clash (move-back A s₁ s₂ b₁) b₂
+single {A = A} f s (differs s₁ b₁ q₁) (takes s₂ b₂ f₂) c₁ c₂ = clash (move-back (A .accepted) s₁ s₂ b₁) b₂
+single {A = A} f s (differs s₁ b₁ q₁) (none-fits s₂ b₂ z₂) c₁ c₂ = clash (move-back (A .accepted) s₁ s₂ b₁) b₂
 single f s (takes s₁ b₁ f₁) (faulty e₂ l₂ m₂) c₁ c₂ = read-clash e₂ (s₁ .reads)
 single f s (takes s₁ b₁ f₁) (foreign e₂ z₂) c₁ c₂ = group-clash e₂ z₂ s₁
-single {A = A} f s (takes s₁ b₁ f₁) (repeats s₂ b₂ q₂) c₁ c₂ = clash (move-back A s₂ s₁ b₂) b₁
-single {A = A} f s (takes s₁ b₁ f₁) (differs s₂ b₂ q₂) c₁ c₂ = clash (move-back A s₂ s₁ b₂) b₁
-single {A = A} f s (takes s₁ b₁ f₁) (takes s₂ b₂ f₂) c₁ c₂ = (refl, same-lay A s₁ s₂)
-single {A = A} f s (takes s₁ b₁ f₁) (none-fits s₂ b₂ z₂) c₁ c₂ = absurd (z₂ _ (move-fits A s₁ s₂ f₁))
+single {A = A} f s (takes s₁ b₁ f₁) (repeats s₂ b₂ q₂) c₁ c₂ = clash (move-back (A .accepted) s₂ s₁ b₂) b₁
+single {A = A} f s (takes s₁ b₁ f₁) (differs s₂ b₂ q₂) c₁ c₂ = clash (move-back (A .accepted) s₂ s₁ b₂) b₁
+single {A = A} f s (takes s₁ b₁ f₁) (takes s₂ b₂ f₂) c₁ c₂ = (refl, ap (λ (B : Accepted). record { accepted = B; seconds = A .seconds }) (same-lay (A .accepted) s₁ s₂))
+single {A = A} f s (takes s₁ b₁ f₁) (none-fits s₂ b₂ z₂) c₁ c₂ = absurd (z₂ _ (move-fits (A .accepted) s₁ s₂ f₁))
 single f s (none-fits s₁ b₁ z₁) (faulty e₂ l₂ m₂) c₁ c₂ = read-clash e₂ (s₁ .reads)
 single f s (none-fits s₁ b₁ z₁) (foreign e₂ z₂) c₁ c₂ = group-clash e₂ z₂ s₁
-single {A = A} f s (none-fits s₁ b₁ z₁) (repeats s₂ b₂ q₂) c₁ c₂ = clash (move-back A s₂ s₁ b₂) b₁
-single {A = A} f s (none-fits s₁ b₁ z₁) (differs s₂ b₂ q₂) c₁ c₂ = clash (move-back A s₂ s₁ b₂) b₁
-single {A = A} f s (none-fits s₁ b₁ z₁) (takes s₂ b₂ f₂) c₁ c₂ = absurd (z₁ _ (move-fits A s₂ s₁ f₂))
+single {A = A} f s (none-fits s₁ b₁ z₁) (repeats s₂ b₂ q₂) c₁ c₂ = clash (move-back (A .accepted) s₂ s₁ b₂) b₁
+single {A = A} f s (none-fits s₁ b₁ z₁) (differs s₂ b₂ q₂) c₁ c₂ = clash (move-back (A .accepted) s₂ s₁ b₂) b₁
+single {A = A} f s (none-fits s₁ b₁ z₁) (takes s₂ b₂ f₂) c₁ c₂ = absurd (z₁ _ (move-fits (A .accepted) s₂ s₁ f₂))
 single f s (none-fits s₁ b₁ z₁) (none-fits s₂ b₂ z₂) c₁ c₂ = (refl, refl)
 single f s (asked-off x₁) (asked-off x₂) c₁ c₂ = (refl, refl)
 single f s (asked-off x₁) (asked-last x₂ a₂) c₁ c₂ = off x₁ x₂
@@ -224,10 +251,31 @@ single f s (whole-open x₁ d₁) (whole-open x₂ d₂) c₁ c₂ = (refl, refl
 single f s (gave-unmourned u₁) (gave-unmourned u₂) c₁ c₂ = (ap places (same-unmourned u₁ u₂), refl)
 single f s (gave-absent u₁ a₁) (gave-absent u₂ a₂) c₁ c₂ = (ap places (same-absent u₁ u₂ a₁ a₂), refl)
 single {roster = roster} f s (gave-count u₁) (gave-count u₂) c₁ c₂ = (ap (λ (S : Row). number (count (length roster) S)) (same-unmourned u₁ u₂), refl)
-single f s (found-at l₁ e₁) (found-at l₂ e₂) c₁ c₂ = (ap number (same-place s l₁ l₂ (e₁ ∙ sym e₂)), refl)
-single f s (found-at {p = p} l₁ e₁) (found-none z₂) c₁ c₂ = absurd (z₂ p l₁ e₁)
-single f s (found-none z₁) (found-at {p = p} l₂ e₂) c₁ c₂ = absurd (z₁ p l₂ e₂)
+single f s (found-first l₁ e₁) (found-first l₂ e₂) c₁ c₂ = (ap (λ (p : ℕ). says (D.first-of p)) (same-place (s .roster) l₁ l₂ (e₁ ∙ sym e₂)), refl)
+single f s (found-first l₁ e₁) (found-second l₂ z₂ e₂) c₁ c₂ = absurd (s .seconds .not-first _ _ l₂ l₁ (e₂ ∙ sym e₁))
+single f s (found-first l₁ e₁) (found-none z₂) c₁ c₂ = not-known s (λ x. s .roster .no-zero _ l₁ (e₁ ∙ x)) (_, l₁, inl e₁) z₂
+single f s (found-second l₁ z₁ e₁) (found-first l₂ e₂) c₁ c₂ = absurd (s .seconds .not-first _ _ l₁ l₂ (e₁ ∙ sym e₂))
+single f s (found-second l₁ z₁ e₁) (found-second l₂ z₂ e₂) c₁ c₂ = (ap (λ (p : ℕ). says (D.second-of p)) (same-second (s .seconds) l₁ l₂ z₁ e₁ e₂), refl)
+single f s (found-second l₁ z₁ e₁) (found-none z₂) c₁ c₂ = not-known s z₁ (_, l₁, inr e₁) z₂
+single f s (found-none z₁) (found-first l₂ e₂) c₁ c₂ = not-known s (λ x. s .roster .no-zero _ l₂ (e₂ ∙ x)) (_, l₂, inl e₂) z₁
+single f s (found-none z₁) (found-second l₂ z₂ e₂) c₁ c₂ = not-known s z₂ (_, l₂, inr e₂) z₁
 single f s (found-none z₁) (found-none z₂) c₁ c₂ = (refl, refl)
+single f s (gave-off x₁) (gave-off x₂) c₁ c₂ = (refl, refl)
+single f s (gave-off x₁) (gave-zero x₂ z₂) c₁ c₂ = off x₁ x₂
+single f s (gave-off x₁) (gave-known x₂ z₂ w₂) c₁ c₂ = off x₁ x₂
+single f s (gave-off x₁) (gave x₂ z₂ n₂ e₂) c₁ c₂ = off x₁ x₂
+single f s (gave-zero x₁ z₁) (gave-off x₂) c₁ c₂ = off x₂ x₁
+single f s (gave-zero x₁ z₁) (gave-zero x₂ z₂) c₁ c₂ = (refl, refl)
+single f s (gave-zero x₁ z₁) (gave-known x₂ z₂ w₂) c₁ c₂ = absurd (z₂ z₁)
+single f s (gave-zero x₁ z₁) (gave x₂ z₂ n₂ e₂) c₁ c₂ = absurd (z₂ z₁)
+single f s (gave-known x₁ z₁ w₁) (gave-off x₂) c₁ c₂ = off x₂ x₁
+single f s (gave-known x₁ z₁ w₁) (gave-zero x₂ z₂) c₁ c₂ = absurd (z₁ z₂)
+single f s (gave-known x₁ z₁ w₁) (gave-known x₂ z₂ w₂) c₁ c₂ = (refl, refl)
+single f s (gave-known x₁ z₁ w₁) (gave x₂ z₂ n₂ e₂) c₁ c₂ = not-new w₁ n₂ e₂
+single f s (gave x₁ z₁ n₁ e₁) (gave-off x₂) c₁ c₂ = off x₂ x₁
+single f s (gave x₁ z₁ n₁ e₁) (gave-zero x₂ z₂) c₁ c₂ = absurd (z₁ z₂)
+single f s (gave x₁ z₁ n₁ e₁) (gave-known x₂ z₂ w₂) c₁ c₂ = not-new w₂ n₁ e₁
+single f s (gave x₁ z₁ n₁ e₁) (gave x₂ z₂ n₂ e₂) c₁ c₂ = (refl, refl)
 single f s (wrote-off x₁) (wrote-off x₂) c₁ c₂ = (refl, refl)
 single f s (wrote-off x₁) (wrote-absent x₂ b₂) c₁ c₂ = off x₁ x₂
 single f s (wrote-off x₁) (wrote-short x₂ b₂ s₂) c₁ c₂ = off x₁ x₂
@@ -244,14 +292,14 @@ single f s (wrote x₁ b₁ u₁ n₁ t₁ d₁ y₁) (wrote-off x₂) c₁ c₂
 single f s (wrote x₁ b₁ u₁ n₁ t₁ d₁ y₁) (wrote-absent x₂ b₂) c₁ c₂ = clash b₁ b₂
 single f s (wrote x₁ b₁ u₁ n₁ t₁ d₁ y₁) (wrote-short x₂ b₂ s₂) c₁ c₂ = off u₁ s₂
 single {k} {roster} {A} f s (wrote {p = p} {at = at} {out = out} {out′ = new₁} x₁ b₁ u₁ n₁ t₁ d₁ y₁) (wrote {out′ = new₂} x₂ b₂ u₂ n₂ t₂ d₂ y₂) c₁ c₂ =
-    let x : Stored = recordIn k roster A p in
-    (ap (lent-one (D.ends (endIn k roster A p at))) (written-is x at out new₁ c₁ t₁ d₁ y₁ ∙ sym (written-is x at out new₂ c₂ t₂ d₂ y₂)), refl)
+    let x : Stored = recordIn k roster (A .accepted) p in
+    (ap (lent-one (D.ends (endIn k roster (A .accepted) p at))) (written-is x at out new₁ c₁ t₁ d₁ y₁ ∙ sym (written-is x at out new₂ c₂ t₂ d₂ y₂)), refl)
 
 -- ---- a list of calls
 
 -- some history fits what is left
-left-fits : {k : Kind} {roster : List ℕ} {A B : Accepted} {H : History} → Fits k (length roster) A H → {c : Call} {o : Outcome} → Dictates k roster A c o B
-    → (G : History) × Fits k (length roster) B G
+left-fits : {k : Kind} {roster : List ℕ} {A B : Ledger} {H : History} → Fits k (length roster) (A .accepted) H → {c : Call} {o : Outcome} → Dictates k roster A c o B
+    → (G : History) × Fits k (length roster) (B .accepted) G
 left-fits {H = H} f (faulty a b d) = (H, f)
 left-fits {H = H} f (foreign a b) = (H, f)
 left-fits {H = H} f (repeats a b d) = (H, f)
@@ -275,22 +323,64 @@ left-fits {H = H} f (whole-open a b) = (H, f)
 left-fits {H = H} f (gave-unmourned a) = (H, f)
 left-fits {H = H} f (gave-absent a b) = (H, f)
 left-fits {H = H} f (gave-count a) = (H, f)
-left-fits {H = H} f (found-at a b) = (H, f)
+left-fits {H = H} f (found-first a b) = (H, f)
+left-fits {H = H} f (found-second a b d) = (H, f)
 left-fits {H = H} f (found-none a) = (H, f)
+left-fits {H = H} f (gave-off a) = (H, f)
+left-fits {H = H} f (gave-zero a b) = (H, f)
+left-fits {H = H} f (gave-known a b d) = (H, f)
+left-fits {H = H} f (gave a b d e) = (H, f)
 left-fits {H = H} f (wrote-off a) = (H, f)
 left-fits {H = H} f (wrote-absent a b) = (H, f)
 left-fits {H = H} f (wrote-short a b d) = (H, f)
 left-fits {H = H} f (wrote a b d e m n p) = (H, f)
 
-single-from : {k : Kind} {roster : List ℕ} {A : Accepted} {H : History} → Fits k (length roster) A H → IsRoster roster → {cs : List Call} {os₁ os₂ : List Outcome}
+-- and the second serials stay apart
+left-seconds : {k : Kind} {roster : List ℕ} {A B : Ledger} → AreSeconds roster (A .seconds) → {c : Call} {o : Outcome} → Dictates k roster A c o B → AreSeconds roster (B .seconds)
+left-seconds s (faulty a b d) = s
+left-seconds s (foreign a b) = s
+left-seconds s (repeats a b d) = s
+left-seconds s (differs a b d) = s
+left-seconds s (takes a b d) = s
+left-seconds s (none-fits a b d) = s
+left-seconds s (asked-off a) = s
+left-seconds s (asked-last a b) = s
+left-seconds s (asked-not a b) = s
+left-seconds s (asked-open a b) = s
+left-seconds s (showed-off a) = s
+left-seconds s (showed-decided a b) = s
+left-seconds s (showed-short a b d) = s
+left-seconds s (showed a b d e m n) = s
+left-seconds s (checked-short a) = s
+left-seconds s (checked-off a b d e m) = s
+left-seconds s (checked-fits a b) = s
+left-seconds s (checked-not a b d) = s
+left-seconds s (whole-settled a) = s
+left-seconds s (whole-open a b) = s
+left-seconds s (gave-unmourned a) = s
+left-seconds s (gave-absent a b) = s
+left-seconds s (gave-count a) = s
+left-seconds s (found-first a b) = s
+left-seconds s (found-second a b d) = s
+left-seconds s (found-none a) = s
+left-seconds s (gave-off a) = s
+left-seconds s (gave-zero a b) = s
+left-seconds s (gave-known a b d) = s
+left-seconds {roster = roster} {A = A} s (gave {p = p} {x = x} a b d e) = seconds-noted roster (A .seconds) p x s a b d
+left-seconds s (wrote-off a) = s
+left-seconds s (wrote-absent a b) = s
+left-seconds s (wrote-short a b d) = s
+left-seconds s (wrote a b d e m n p) = s
+
+single-from : {k : Kind} {roster : List ℕ} {A : Ledger} {H : History} → Fits k (length roster) (A .accepted) H → Sound roster (A .seconds) → {cs : List Call} {os₁ os₂ : List Outcome}
     → Whole k roster A cs os₁ → Whole k roster A cs os₂ → AllInBytes os₁ → AllInBytes os₂ → map (plain (length roster)) os₁ ≡ map (plain (length roster)) os₂
 single-from f s end end c₁ c₂ = refl
 single-from {k} {roster} f s (then {cs = cs} d₁ w₁) (then {os = os} d₂ w₂) c₁ c₂ =
     let e = single f s d₁ d₂ (c₁ .0) (c₂ .0) in
     ap₂ (λ (o : Outcome) (os : List Outcome). o ∷ os) (e .0)
-    (single-from (left-fits f d₁ .1) s w₁ (subst (λ (B : Accepted). Whole k roster B cs os) (sym (e .1)) w₂) (c₁ .1) (c₂ .1))
+    (single-from (left-fits f d₁ .1) (record { roster = s .roster; seconds = left-seconds (s .seconds) d₁ }) w₁ (subst (λ (B : Ledger). Whole k roster B cs os) (sym (e .1)) w₂) (c₁ .1) (c₂ .1))
 
 -- so a list of calls from the opening on has one list of outcomes
 pub single-whole : {k : Kind} {roster : List ℕ} → IsRoster roster → {cs : List Call} {os₁ os₂ : List Outcome}
-    → Whole k roster none cs os₁ → Whole k roster none cs os₂ → AllInBytes os₁ → AllInBytes os₂ → map (plain (length roster)) os₁ ≡ map (plain (length roster)) os₂
-single-whole {k} {roster} s = single-from (none-fitted k (length roster)) s
+    → Whole k roster (begun roster) cs os₁ → Whole k roster (begun roster) cs os₂ → AllInBytes os₁ → AllInBytes os₂ → map (plain (length roster)) os₁ ≡ map (plain (length roster)) os₂
+single-whole {k} {roster} s = single-from (none-fitted k (length roster)) (record { roster = s; seconds = seconds-none roster (s .no-zero) })

@@ -7,7 +7,8 @@ use native.Mathlib.Omega.{arith}
 use lib.ListN.{length, drop}
 use Rattle.places.proofs.Booleans.{or-right, eqb-self}
 use Rattle.histories.specs.declared.Kind.{Kind}
-use Rattle.histories.specs.Histories.{History, Accepted, lay, Fits, Disagree}
+use Rattle.histories.specs.Histories.{History, Fits, Disagree}
+use Rattle.rosters.specs.Seconds.{countsAs, itself}
 use Rattle.rows.specs.Rows.{historyIn}
 use Rattle.records.specs.declared.Writing.the-variants as W
 use Rattle.records.specs.Layout.{Parsed, got, Stored, stored, lone, layout}
@@ -21,46 +22,46 @@ use Rattle.shows.specs.declared.Showing.{Showing}
 use Rattle.shows.specs.declared.Showing.the-variants as S
 use Rattle.recovery.specs.declared.Checked.{Checked}
 use Rattle.recovery.specs.declared.Checked.the-variants as C
-use Rattle.recovery.specs.Contracts.{acceptedOf, offered, shown, checked, recordOf, writtenOf}
+use Rattle.recovery.specs.Contracts.{secondsOf, aliasOf, acceptedOf, offered, shown, checked, recordOf, writtenOf}
 use Rattle.recovery.specs.Demand as D
-use Rattle.recovery.specs.Demand.{Free, Call, offer, show, check, says, lent, OfGroup, Holds, recordIn, Dictates, takes, showed, checked-fits}
-use Rattle.recovery.specs.Run.{offerSays, showingSays, checkedSays, shownGives, outcome, next, left, reached}
+use Rattle.recovery.specs.Demand.{Free, Ledger, laying, Call, offer, show, check, says, lent, OfGroup, Holds, recordIn, Dictates, takes, showed, checked-fits}
+use Rattle.recovery.specs.Run.{offerSays, showingSays, checkedSays, shownGives, outcome, next, ledgerOf, left, reached}
 use Rattle.recovery.proofs.Calls.{written-at}
 use Rattle.recovery.proofs.Keeps.{returned-on}
-use Rattle.recovery.proofs.Demand.{Good, is-kind, is-size, own, record-is, record-stored, step, good-next, good-after, good-left}
+use Rattle.recovery.proofs.Demand.{Good, is-kind, is-size, is-alias, own, record-is, record-stored, step, good-next, good-after, good-left}
 use Rattle.recovery.proofs.Dictated.{within-left}
 use Rattle.recovery.proofs.Single.{plain, single}
 
--- ---- a record taken is written as its own bytes
+-- ---- a record taken is written in first serials: as its own bytes, if it came so
 
 -- what is left when a record is taken
-taken-lays : {k : Kind} {roster bytes : List ℕ} {A B : Accepted} → Dictates k roster A (offer bytes) (says D.taken) B
-    → (x : Stored) × OfGroup k roster bytes x × (B ≡ lay A (x .own) (x .mourned))
+taken-lays : {k : Kind} {roster bytes : List ℕ} {A B : Ledger} → Dictates k roster A (offer bytes) (says D.taken) B
+    → (x : Stored) × OfGroup k roster (A .seconds) bytes x × (B ≡ laying A (x .own) (x .mourned))
 taken-lays (takes {x = x} s b f) = (x, s, refl)
 
 module _ {k : Kind} {roster : List ℕ} {r : Recovery} (g : Good k roster r) (bytes : List ℕ) (t : offered r bytes .answer ≡ O.Taken) where
-  taken-step : Dictates k roster (acceptedOf r) (offer bytes) (says D.taken) (acceptedOf (offered r bytes .recovery))
+  taken-step : Dictates k roster (ledgerOf r) (offer bytes) (says D.taken) (ledgerOf (offered r bytes .recovery))
   unfolding outcome next offerSays
   taken-step =
-      subst (λ (a : Reply). Dictates k roster (acceptedOf r) (offer bytes) (says (offerSays a)) (acceptedOf (offered r bytes .recovery))) t (step g (offer bytes))
+      subst (λ (a : Reply). Dictates k roster (ledgerOf r) (offer bytes) (says (offerSays a)) (ledgerOf (offered r bytes .recovery))) t (step g (offer bytes))
 
   taken-good : Good k roster (offered r bytes .recovery)
   unfolding next
   taken-good = good-next g (offer bytes)
 
   -- its place is back from then on, and its record is the one that was read
-  taken-stays : (ds : List Call) (x : Stored) (rest : List ℕ) → lone bytes ≡ got x rest
+  taken-stays : (ds : List Call) (x : Stored) (rest : List ℕ) → lone (countsAs roster (secondsOf r)) bytes ≡ got x rest
       → (acceptedOf (left (offered r bytes .recovery) ds) .returned (x .own) ≡ true) × (recordOf (left (offered r bytes .recovery) ds) (x .own) ≡ x)
   taken-stays ds x rest e = subst There (same (s .reads) e) (u .0, record-is (own good) (y .own) ∙ is)
     where
       r′ : Recovery
       r′ = left (offered r bytes .recovery) ds
 
-      A : Accepted
-      A = acceptedOf r
+      A : Ledger
+      A = ledgerOf r
 
-      B : Accepted
-      B = acceptedOf (offered r bytes .recovery)
+      B : Ledger
+      B = ledgerOf (offered r bytes .recovery)
 
       There : Stored → Type 0
       There x = (acceptedOf r′ .returned (x .own) ≡ true) × (recordOf r′ (x .own) ≡ x)
@@ -68,25 +69,25 @@ module _ {k : Kind} {roster : List ℕ} {r : Recovery} (g : Good k roster r) (by
       same : {p : Parsed Stored} {u v : List ℕ} {x y : Stored} → p ≡ got x u → p ≡ got y v → x ≡ y
       same a b = cc
 
-      lays : (x : Stored) × OfGroup k roster bytes x × (B ≡ lay A (x .own) (x .mourned))
+      lays : (x : Stored) × OfGroup k roster (secondsOf r) bytes x × (B ≡ laying A (x .own) (x .mourned))
       lays = taken-lays taken-step
 
       y : Stored
       y = lays .0
 
-      s : OfGroup k roster bytes y
+      s : OfGroup k roster (secondsOf r) bytes y
       s = lays .1
 
-      back : B .returned (y .own) ≡ true
-      back = subst (λ (B : Accepted). B .returned (y .own) ≡ true) (sym (lays .2)) (or-right (A .returned (y .own)) (eqb-self (y .own)))
+      back : B .accepted .returned (y .own) ≡ true
+      back = subst (λ (B : Ledger). B .accepted .returned (y .own) ≡ true) (sym (lays .2)) (or-right (A .accepted .returned (y .own)) (eqb-self (y .own)))
 
-      row : B .row (y .own) ≡ y .mourned
-      row = ap (λ (B : Accepted). B .row (y .own)) (lays .2) ∙ ap (λ (t : Bool). cond t (y .mourned) (A .row (y .own))) (eqb-self (y .own))
+      row : B .accepted .row (y .own) ≡ y .mourned
+      row = ap (λ (B : Ledger). B .accepted .row (y .own)) (lays .2) ∙ ap (λ (t : Bool). cond t (y .mourned) (A .accepted .row (y .own))) (eqb-self (y .own))
 
       good : Good k roster r′
       good = good-after taken-good ds
 
-      u : (acceptedOf r′ .returned (y .own) ≡ true) × (acceptedOf r′ .row (y .own) ≡ B .row (y .own))
+      u : (acceptedOf r′ .returned (y .own) ≡ true) × (acceptedOf r′ .row (y .own) ≡ B .accepted .row (y .own))
       u = let w = within-left taken-good ds in (w .returned (y .own) back, w .row (y .own) back)
 
       kind : r′ .kind ≡ y .kind
@@ -107,21 +108,31 @@ lays-down : (r : Recovery) (p : ℕ) → acceptedOf r .returned p ≡ true → (
 lays-down r p b out at l = written-at r refl p out at (returned-on r p b) b l
 
 module _ {kind : ℕ} {roster : List ℕ} (f : Free kind roster) (cs : List Call) (bytes : List ℕ) (t : offered (reached kind roster cs) bytes .answer ≡ O.Taken) where
-  -- it was read
-  pub taken-reads : (x : Stored) × (rest : List ℕ) × (lone bytes ≡ got x rest)
-  taken-reads = let w = taken-lays (taken-step (good-left f cs) bytes t) in (w .0, w .1 .rest, w .1 .reads)
+  -- it was read, by the second serials given up to then
+  pub taken-reads : (x : Stored) × (rest : List ℕ) × (lone (aliasOf (reached kind roster cs)) bytes ≡ got x rest)
+  taken-reads = let w = taken-lays (taken-step (good-left f cs) bytes t) in (w .0, w .1 .rest, as-read (w .1 .reads))
+    where
+      as-read : {p : Parsed Stored} → lone (countsAs roster (secondsOf (reached kind roster cs))) bytes ≡ p → lone (aliasOf (reached kind roster cs)) bytes ≡ p
+      as-read e = ap (λ (a : ℕ → ℕ). lone a bytes) (is-alias (good-left f cs)) ∙ e
 
-  module _ (h : AllBytes bytes) (ds : List Call) (x : Stored) (rest : List ℕ) (e : lone bytes ≡ got x rest) where
-    -- whatever calls come after it, its place's record has the bytes that were offered
-    pub taken-written : layout (recordOf (left (offered (reached kind roster cs) bytes .recovery) ds) (x .own)) ≡ bytes
-    taken-written = ap layout (taken-stays (good-left f cs) bytes t ds x rest e .1) ∙ sym (lone-layout bytes x rest h e)
+  module _ (ds : List Call) (x : Stored) (rest : List ℕ) (e : lone (aliasOf (reached kind roster cs)) bytes ≡ got x rest) where
+    stays : (acceptedOf (left (offered (reached kind roster cs) bytes .recovery) ds) .returned (x .own) ≡ true) × (recordOf (left (offered (reached kind roster cs) bytes .recovery) ds) (x .own) ≡ x)
+    stays = taken-stays (good-left f cs) bytes t ds x rest (sym (ap (λ (a : ℕ → ℕ). lone a bytes) (is-alias (good-left f cs))) ∙ e)
 
-    -- and they are what is written
-    pub taken-put : (out : List ℕ) (at : ℕ) → at + length bytes ≤ length out
-        → writtenOf (left (offered (reached kind roster cs) bytes .recovery) ds) (x .own) out at ≡ record { answer = W.Next (at + length bytes); buffer = putAt at bytes out }
+    -- whatever calls come after it, its place's record is the one that was read: kind, own place, roster and mourned set
+    pub taken-kept : recordOf (left (offered (reached kind roster cs) bytes .recovery) ds) (x .own) ≡ x
+    taken-kept = stays .1
+
+    -- and is what is written, in first serials
+    pub taken-put : (out : List ℕ) (at : ℕ) → at + length (layout x) ≤ length out
+        → writtenOf (left (offered (reached kind roster cs) bytes .recovery) ds) (x .own) out at ≡ record { answer = W.Next (at + length (layout x)); buffer = putAt at (layout x) out }
     taken-put out at l =
-        lays-down (left (offered (reached kind roster cs) bytes .recovery) ds) (x .own) (taken-stays (good-left f cs) bytes t ds x rest e .0) out at (rw taken-written l)
-        ∙ ap (λ (b : List ℕ). record { answer = W.Next (at + length b); buffer = putAt at b out }) taken-written
+        lays-down (left (offered (reached kind roster cs) bytes .recovery) ds) (x .own) (stays .0) out at (rw taken-kept l)
+        ∙ ap (λ (y : Stored). record { answer = W.Next (at + length (layout y)); buffer = putAt at (layout y) out }) taken-kept
+
+    -- so the bytes that were offered are written, if no second serial is among them
+    pub taken-written : AllBytes bytes → lone itself bytes ≡ got x rest → layout (recordOf (left (offered (reached kind roster cs) bytes .recovery) ds) (x .own)) ≡ bytes
+    taken-written h p = ap layout taken-kept ∙ sym (lone-layout bytes x rest h p)
 
 -- ---- a record written is read as the one that was accepted
 
@@ -134,22 +145,22 @@ module _ {kind : ℕ} {roster : List ℕ} (f : Free kind roster) (cs : List Call
   buffer-is : writtenOf (reached kind roster cs) p out at .buffer ≡ putAt at (layout (recordOf (reached kind roster cs) p)) out
   buffer-is = ap (λ (w : Written). w .buffer) (lays-down (reached kind roster cs) p b out at l)
 
-  pub written-read : stored (drop at (writtenOf (reached kind roster cs) p out at .buffer))
+  pub written-read : (alias : ℕ → ℕ) → stored alias (drop at (writtenOf (reached kind roster cs) p out at .buffer))
       ≡ got (recordOf (reached kind roster cs) p) (drop (at + length (layout (recordOf (reached kind roster cs) p))) out)
-  written-read =
-      ap (λ (l : List ℕ). stored (drop at l)) buffer-is ∙ ap stored (drop-put at (layout (recordOf (reached kind roster cs) p)) out l)
-      ∙ read-layout (recordOf (reached kind roster cs) p) (returned-stored (good-left f cs) p b) (drop (at + length (layout (recordOf (reached kind roster cs) p))) out)
+  written-read alias =
+      ap (λ (l : List ℕ). stored alias (drop at l)) buffer-is ∙ ap (stored alias) (drop-put at (layout (recordOf (reached kind roster cs) p)) out l)
+      ∙ read-layout alias (recordOf (reached kind roster cs) p) (returned-stored (good-left f cs) p b) (drop (at + length (layout (recordOf (reached kind roster cs) p))) out)
 
   -- as the reader answers
-  pub written-reading : reading (writtenOf (reached kind roster cs) p out at .buffer) at
+  pub written-reading : (alias : ℕ → ℕ) → reading alias (writtenOf (reached kind roster cs) p out at .buffer) at
       ≡ readingOf (length out) at (got (recordOf (reached kind roster cs) p) (drop (at + length (layout (recordOf (reached kind roster cs) p))) out))
-  written-reading = ap (λ (l : List ℕ). reading l at) buffer-is ∙ read-back (recordOf (reached kind roster cs) p) (returned-stored (good-left f cs) p b) out at l
+  written-reading alias = ap (λ (l : List ℕ). reading alias l at) buffer-is ∙ read-back alias (recordOf (reached kind roster cs) p) (returned-stored (good-left f cs) p b) out at l
 
 -- ---- a history shown is found to fit
 
 -- what was shown
-shown-holds : {k : Kind} {roster : List ℕ} {A B : Accepted} {i : ℕ} {a b a′ b′ : List ℕ} → Dictates k roster A (show i a b) (lent D.shown a′ b′) B
-    → (F : History) × (G : History) × (16 * length roster ≤ length a) × (16 * length roster ≤ length b) × Disagree k (length roster) A i F G × Holds (length roster) a a′ F × Holds (length roster) b b′ G
+shown-holds : {k : Kind} {roster : List ℕ} {A B : Ledger} {i : ℕ} {a b a′ b′ : List ℕ} → Dictates k roster A (show i a b) (lent D.shown a′ b′) B
+    → (F : History) × (G : History) × (16 * length roster ≤ length a) × (16 * length roster ≤ length b) × Disagree k (length roster) (A .accepted) i F G × Holds (length roster) a a′ F × Holds (length roster) b b′ G
 shown-holds (showed {F = F} {G = G} x u v d y z) = (F, G, u, v, d, y, z)
 
 fits-said : (c : Checked) → checkedSays c ≡ D.fits → c ≡ C.Fits
@@ -162,7 +173,7 @@ module _ {k : Kind} {roster : List ℕ} {r : Recovery} (g : Good k roster r) whe
   -- a buffer whose rows fit
   fits-checked : (h : List ℕ) → 16 * length roster ≤ length h → Fits k (length roster) (acceptedOf r) (historyIn (length roster) h) → checked r h ≡ C.Fits
   unfolding outcome plain
-  fits-checked h l f = fits-said (checked r h) (said (single (g .fits) (g .sound) (step g (check h)) (checked-fits l f) tt tt .0))
+  fits-checked h l f = fits-said (checked r h) (said (single (g .fits) (record { roster = g .sound; seconds = g .given }) (step g (check h)) (checked-fits l f) tt tt .0))
     where
       said : says (checkedSays (checked r h)) ≡ says D.fits → checkedSays (checked r h) ≡ D.fits
       said e = cc
@@ -175,8 +186,8 @@ module _ {k : Kind} {roster : List ℕ} {r : Recovery} (g : Good k roster r) whe
   unfolding outcome shownGives showingSays
   show-checked i a b e = (holds-checked a (shown r i a b .first) (w .0) (w .2) (w .5) (w .4 .first-fits), holds-checked b (shown r i a b .second) (w .1) (w .3) (w .6) (w .4 .second-fits))
     where
-      shows : Dictates k roster (acceptedOf r) (show i a b) (lent D.shown (shown r i a b .first) (shown r i a b .second)) (acceptedOf (next r (show i a b)))
-      shows = subst (λ (s : Showing). Dictates k roster (acceptedOf r) (show i a b) (lent (showingSays s) (shown r i a b .first) (shown r i a b .second)) (acceptedOf (next r (show i a b)))) e (step g (show i a b))
+      shows : Dictates k roster (ledgerOf r) (show i a b) (lent D.shown (shown r i a b .first) (shown r i a b .second)) (ledgerOf (next r (show i a b)))
+      shows = subst (λ (s : Showing). Dictates k roster (ledgerOf r) (show i a b) (lent (showingSays s) (shown r i a b .first) (shown r i a b .second)) (ledgerOf (next r (show i a b)))) e (step g (show i a b))
 
       w : (F : History) × (G : History) × (16 * length roster ≤ length a) × (16 * length roster ≤ length b) × Disagree k (length roster) (acceptedOf r) i F G
           × Holds (length roster) a (shown r i a b .first) F × Holds (length roster) b (shown r i a b .second) G

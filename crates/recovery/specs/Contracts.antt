@@ -3,22 +3,26 @@
 use mathlib.Core.Bool.{Bool, cond, _&&_}
 use mathlib.Core.List.{List, [], _++_}
 use Prim.Native.Nat.{ℕ, _-_, _*_}
-use lib.ListN.{length, take, replicate}
+use lib.ListN.{length, set, take, replicate}
 use lib.Dec.{leb, ltb}
 use Rattle.places.specs.Sets.{nothing, below, union, difference, with, count}
-use Rattle.places.specs.PlaceSets.{has, packed, found}
-use Rattle.places.specs.declared.Found.{Found}
+use Rattle.places.specs.PlaceSets.{has, packed}
 use Rattle.histories.specs.declared.Kind.{Kind}
 use Rattle.histories.specs.declared.Kind.the-variants.{Full}
 use Rattle.histories.specs.Histories.{Row, History, Accepted}
 use Rattle.histories.specs.Rule.{Answer, is-last, not-last, is-open, recorded, mourned, answerBy, settledBy, fitsTest}
-use Rattle.rosters.specs.Rosters.{placeOf, listed}
+use Rattle.rosters.specs.Rosters.{listed}
+use Rattle.rosters.specs.Seconds.{countsAs, finding}
+use Rattle.rosters.specs.declared.Finding.{Finding}
 use Rattle.rosters.specs.declared.Listed.{Listed}
 use Rattle.rosters.specs.declared.Listed.the-variants as L
 use Rattle.rows.specs.Rows.{noRows, rowsOf, withRow, tableOf, historyIn}
 use Rattle.records.specs.Layout.{Parsed, got, refused, knownKind, kindOf, Stored, lone, layout}
 use Rattle.records.specs.Records.{sameList, Written, unwritten, writtenAt}
 use Rattle.answers.specs.Views.{size, acceptedIn}
+use Rattle.groups.specs.Groups.{giving}
+use Rattle.groups.specs.declared.Giving.{Giving}
+use Rattle.groups.specs.declared.Giving.the-variants as Y
 use Rattle.checks.specs.Checks.{offRoster}
 use Rattle.shows.specs.Shows.{Shown, shownIn}
 use Rattle.replies.specs.Replies.{sameKind, entering}
@@ -28,6 +32,7 @@ use Rattle.recovery.specs.declared.Opened.{Opened}
 use Rattle.replies.specs.declared.Reply.{Reply}
 use Rattle.replies.specs.declared.Reply.the-variants as O
 use Rattle.recovery.specs.declared.Offered.{Offered}
+use Rattle.recovery.specs.declared.Gave.{Gave}
 use Rattle.recovery.specs.declared.Asked.{Asked}
 use Rattle.recovery.specs.declared.Asked.the-variants as A
 use Rattle.recovery.specs.declared.Checked.{Checked}
@@ -42,19 +47,28 @@ sizeOf r = size (r .count)
 unfoldable pub rosterOf : Recovery → List ℕ
 rosterOf r = take (sizeOf r) (r .serials)
 
+-- the second serials beside it, 0 where a place has none
+unfoldable pub secondsOf : Recovery → List ℕ
+secondsOf r = take (sizeOf r) (r .seconds)
+
+-- what serials count as in its group
+unfoldable pub aliasOf : Recovery → ℕ → ℕ
+aliasOf r = countsAs (rosterOf r) (secondsOf r)
+
 -- the accepted records; places off the roster are not looked at
 unfoldable pub acceptedOf : Recovery → Accepted
 acceptedOf r = acceptedIn (r .count) (has (r .returned)) (r .rows)
 
--- the recovery of a group that has these records accepted, whatever came in between and in whatever order. Every recovery is such
--- a one from its opening on (proofs/Demand.antt, `Good`): the mourned places that it keeps are those that its accepted records
+-- the recovery of a group that has these second serials and these records accepted, whatever came in between and in whatever order. Every
+-- recovery is such a one from its opening on (proofs/Demand.antt, `Good`): the mourned places that it keeps are those that its accepted records
 -- name, and it has an empty row for each place that is not back. The calls go by what is kept, so that asking need not collect it,
 -- and showing need not clean it
-unfoldable pub holding : Kind → List ℕ → Accepted → Recovery
-holding k roster A = record {
+unfoldable pub holding : Kind → List ℕ → List ℕ → Accepted → Recovery
+holding k roster seconds A = record {
   kind = k;
   count = length roster;
   serials = roster ++ replicate (128 - length roster) 0;
+  seconds = seconds ++ replicate (128 - length seconds) 0;
   returned = packed (A .returned);
   mourned = packed (mourned (length roster) A);
   rows = tableOf (recorded A);
@@ -62,9 +76,17 @@ holding k roster A = record {
 
 -- ---- opening: 2, then 3, 4, 5, or opened
 
--- a roster, and nobody back
+-- a roster, no second serial, and nobody back
 unfoldable pub fresh : Kind → List ℕ → Recovery
-fresh k s = record { kind = k; count = length s; serials = s ++ replicate (128 - length s) 0; returned = packed nothing; mourned = packed nothing; rows = noRows }
+fresh k s = record {
+  kind = k;
+  count = length s;
+  serials = s ++ replicate (128 - length s) 0;
+  seconds = replicate 128 0;
+  returned = packed nothing;
+  mourned = packed nothing;
+  rows = noRows;
+}
 
 -- a refused opening gives a recovery of no places
 unfoldable pub unopened : ℕ → Opened
@@ -93,6 +115,7 @@ keeping r p M = record {
   kind = r .kind;
   count = r .count;
   serials = r .serials;
+  seconds = r .seconds;
   returned = packed (with p (has (r .returned)));
   mourned = packed (union (has (r .mourned)) M);
   rows = withRow (r .rows) p (packed M);
@@ -117,7 +140,7 @@ offeredAs r (got x rest) = judged r x
 offeredAs r (refused j) = saying r (O.Refused j)
 
 unfoldable pub offered : Recovery → List ℕ → Offered
-offered r bytes = offeredAs r (lone bytes)
+offered r bytes = offeredAs r (lone (aliasOf r) bytes)
 
 -- ---- asking: 12, or the answer
 
@@ -160,10 +183,31 @@ unmournedAbsentOf r = difference (unmournedOf r) (acceptedOf r .returned)
 unfoldable pub unmournedCountOf : Recovery → ℕ
 unmournedCountOf r = count (sizeOf r) (unmournedOf r)
 
--- ---- the place of a serial
+-- ---- the place of a serial, and which of the place's two it is
 
-unfoldable pub foundIn : Recovery → ℕ → Found
-foundIn r x = found (length (rosterOf r)) (placeOf x (rosterOf r))
+unfoldable pub foundIn : Recovery → ℕ → Finding
+foundIn r x = finding (aliasOf r) (rosterOf r) x
+
+-- ---- giving a place a second serial: 12, 4, 16, or given
+
+unfoldable pub withSecond : Recovery → ℕ → ℕ → Recovery
+withSecond r p x = record {
+  kind = r .kind;
+  count = r .count;
+  serials = r .serials;
+  seconds = set (r .seconds) p x;
+  returned = r .returned;
+  mourned = r .mourned;
+  rows = r .rows;
+}
+
+-- where it is refused, the recovery stays as it is
+unfoldable pub gaveAs : Recovery → ℕ → ℕ → Giving → Gave
+gaveAs r p x Y.Given = record { answer = Y.Given; recovery = withSecond r p x }
+gaveAs r p x (Y.Refused j) = record { answer = Y.Refused j; recovery = r }
+
+unfoldable pub given : Recovery → ℕ → ℕ → Gave
+given r p x = gaveAs r p x (giving (r .count) (r .serials) (r .seconds) p x)
 
 -- ---- writing a returned record: 12, 14, 13, or laid down from a position on
 

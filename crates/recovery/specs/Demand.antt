@@ -1,22 +1,25 @@
--- Demand 3: what the accepted records (document 01's pile) dictate for each call. A call holds what its caller passes, an
--- outcome what the caller gets, lent bytes included. Nothing here knows of a recovery. Assumes nothing.
+-- Demand 3: what the accepted records (document 01's pile), and the second serials given (document 02, [2]), dictate for each call. A call
+-- holds what its caller passes, an outcome what the caller gets, lent bytes included. Nothing here knows of a recovery. Assumes nothing.
 use mathlib.Core.Path.{_≡_}
 use mathlib.Core.Bool.{true, false}
 use mathlib.Core.Logic.{_⊎_, _↔_}
 use mathlib.Core.List.{List, [], _∷_}
 use Prim.Native.Nat.{ℕ, _+_, _*_, _^_, _<_, _≤_}
-use lib.ListN.{length, getD, take, drop}
+use lib.ListN.{length, getD, set, take, drop, replicate}
 use Rattle.places.specs.Sets.{count}
 use Rattle.histories.specs.declared.Kind.{Kind}
-use Rattle.histories.specs.Histories.{Row, History, Accepted, lay, Fits, LastInAll, LastInNone, Decided, Disagree}
+use Rattle.histories.specs.Histories.{Row, History, Accepted, none, lay, Fits, LastInAll, LastInNone, Decided, Disagree}
 use Rattle.rosters.specs.Rosters.{IsRoster}
+use Rattle.rosters.specs.Seconds.{countsAs, itself}
 use Rattle.rows.specs.Rows.{historyIn}
 use Rattle.records.specs.Layout.{got, Stored, stored, lone, layout}
 use Rattle.records.specs.Layout as L
 
 -- document 01's words, and its refusals by their numbers
 pub data Said : Type 0 where
-  opened taken repeated is-last not-last is-open decided shown fits fits-not settled unsettled not-found : Said
+  opened taken repeated is-last not-last is-open decided shown fits fits-not settled unsettled given not-found : Said
+  -- a serial was found: it is the first one, or the second one, of this place
+  first-of second-of : ℕ → Said
   -- a record was written, up to this position
   ends : ℕ → Said
   refused : ℕ → Said
@@ -53,6 +56,8 @@ pub data Call : Type 0 where
   whole unmourned unmourned-absent unmourned-count : Call
   -- a serial
   find : ℕ → Call
+  -- a place, and a second serial for it
+  give : ℕ → ℕ → Call
   -- a place, a buffer, and a position in it
   write : ℕ → List ℕ → ℕ → Call
 
@@ -64,12 +69,42 @@ pub data Outcome : Type 0 where
   places : Row → Outcome
   number : ℕ → Outcome
 
--- ---- what the accepted records dictate, of a group of this kind and roster
+-- ---- what stands beside a recovery
 
--- the bytes are a lone record of this group, free of the faults 1 to 9
-pub record OfGroup (k : Kind) (roster : List ℕ) (bytes : List ℕ) (x : Stored) : Type 0 where
+-- what anybody can keep who sees the calls' arguments: the accepted records, and the second serials given, place by place, 0 where a place
+-- has none
+pub record Ledger : Type 0 where
+  pub accepted : Accepted
+  pub seconds : List ℕ
+
+-- at the opening
+abbrev pub begun : List ℕ → Ledger
+begun roster = record { accepted = none; seconds = replicate (length roster) 0 }
+
+-- with the record of p; with a second serial for p
+abbrev pub laying : Ledger → ℕ → Row → Ledger
+laying A p M = record { accepted = lay (A .accepted) p M; seconds = A .seconds }
+
+abbrev pub noting : Ledger → ℕ → ℕ → Ledger
+noting A p x = record { accepted = A .accepted; seconds = set (A .seconds) p x }
+
+-- x, if it is not 0, is the first or the second serial of some place
+abbrev pub KnownSerial : List ℕ → List ℕ → ℕ → Type 0
+KnownSerial roster seconds x = (p : ℕ) × (p < length roster) × ((getD roster p 0 ≡ x) ⊎ (getD seconds p 0 ≡ x))
+
+-- what the second serials given are, whatever was called: one or 0 for each place, none of them a first one, no two alike
+pub record AreSeconds (roster seconds : List ℕ) : Type 0 where
+  pub long : length seconds ≡ length roster
+  pub not-first : (p q : ℕ) → p < length roster → q < length roster → ¬ (getD seconds p 0 ≡ getD roster q 0)
+  pub no-repeat : (p q : ℕ) → p < q → q < length roster → getD seconds p 0 ≡ getD seconds q 0 → getD seconds p 0 ≡ 0
+
+-- ---- what it dictates, of a group of this kind and roster
+
+-- the bytes are a lone record of this group, free of the faults 1 to 9: a serial that is not on the record's roster counts as the first
+-- one of the place whose second one it is
+pub record OfGroup (k : Kind) (roster seconds : List ℕ) (bytes : List ℕ) (x : Stored) : Type 0 where
   pub rest : List ℕ
-  pub reads : lone bytes ≡ got x rest
+  pub reads : lone (countsAs roster seconds) bytes ≡ got x rest
   pub same-kind : x .kind ≡ k
   pub same-roster : x .roster ≡ roster
 
@@ -95,60 +130,67 @@ recordIn k roster A p = record { kind = k; own = p; roster = roster; mourned = A
 abbrev pub endIn : Kind → List ℕ → Accepted → ℕ → ℕ → ℕ
 endIn k roster A p at = at + length (layout (recordIn k roster A p))
 
--- `Dictates k roster A c o B`: with the records A accepted, the call c must have the outcome o, and leaves the records B accepted
-pub data Dictates (k : Kind) (roster : List ℕ) : Accepted → Call → Outcome → Accepted → Type 0 where
-  faulty : {A : Accepted} {bytes : List ℕ} {j : ℕ} → lone bytes ≡ L.refused j → 1 ≤ j → j ≤ 8 → Dictates k roster A (offer bytes) (says (refused j)) A
-  foreign : {A : Accepted} {bytes rest : List ℕ} {x : Stored} → lone bytes ≡ got x rest → ¬ ((x .kind ≡ k) × (x .roster ≡ roster))
+-- `Dictates k roster A c o B`: where A stands beside the recovery, the call c must have the outcome o, and leaves B there
+pub data Dictates (k : Kind) (roster : List ℕ) : Ledger → Call → Outcome → Ledger → Type 0 where
+  faulty : {A : Ledger} {bytes : List ℕ} {j : ℕ} → lone (countsAs roster (A .seconds)) bytes ≡ L.refused j → 1 ≤ j → j ≤ 8 → Dictates k roster A (offer bytes) (says (refused j)) A
+  foreign : {A : Ledger} {bytes rest : List ℕ} {x : Stored} → lone (countsAs roster (A .seconds)) bytes ≡ got x rest → ¬ ((x .kind ≡ k) × (x .roster ≡ roster))
       → Dictates k roster A (offer bytes) (says (refused 9)) A
-  repeats : {A : Accepted} {bytes : List ℕ} {x : Stored} → OfGroup k roster bytes x → A .returned (x .own) ≡ true → x .mourned ≡ A .row (x .own)
+  repeats : {A : Ledger} {bytes : List ℕ} {x : Stored} → OfGroup k roster (A .seconds) bytes x → A .accepted .returned (x .own) ≡ true → x .mourned ≡ A .accepted .row (x .own)
       → Dictates k roster A (offer bytes) (says repeated) A
-  differs : {A : Accepted} {bytes : List ℕ} {x : Stored} → OfGroup k roster bytes x → A .returned (x .own) ≡ true → ¬ (x .mourned ≡ A .row (x .own))
+  differs : {A : Ledger} {bytes : List ℕ} {x : Stored} → OfGroup k roster (A .seconds) bytes x → A .accepted .returned (x .own) ≡ true → ¬ (x .mourned ≡ A .accepted .row (x .own))
       → Dictates k roster A (offer bytes) (says (refused 10)) A
-  takes : {A : Accepted} {bytes : List ℕ} {x : Stored} {H : History} → OfGroup k roster bytes x → A .returned (x .own) ≡ false
-      → Fits k (length roster) (lay A (x .own) (x .mourned)) H
-      → Dictates k roster A (offer bytes) (says taken) (lay A (x .own) (x .mourned))
-  none-fits : {A : Accepted} {bytes : List ℕ} {x : Stored} → OfGroup k roster bytes x → A .returned (x .own) ≡ false
-      → ((H : History) → ¬ (Fits k (length roster) (lay A (x .own) (x .mourned)) H))
+  takes : {A : Ledger} {bytes : List ℕ} {x : Stored} {H : History} → OfGroup k roster (A .seconds) bytes x → A .accepted .returned (x .own) ≡ false
+      → Fits k (length roster) (lay (A .accepted) (x .own) (x .mourned)) H
+      → Dictates k roster A (offer bytes) (says taken) (laying A (x .own) (x .mourned))
+  none-fits : {A : Ledger} {bytes : List ℕ} {x : Stored} → OfGroup k roster (A .seconds) bytes x → A .accepted .returned (x .own) ≡ false
+      → ((H : History) → ¬ (Fits k (length roster) (lay (A .accepted) (x .own) (x .mourned)) H))
       → Dictates k roster A (offer bytes) (says (refused 11)) A
-  asked-off : {A : Accepted} {i : ℕ} → length roster ≤ i → Dictates k roster A (ask i) (says (refused 12)) A
-  asked-last : {A : Accepted} {i : ℕ} → i < length roster → LastInAll k (length roster) A i → Dictates k roster A (ask i) (says is-last) A
-  asked-not : {A : Accepted} {i : ℕ} → i < length roster → LastInNone k (length roster) A i → Dictates k roster A (ask i) (says not-last) A
-  asked-open : {A : Accepted} {i : ℕ} {F G : History} → i < length roster → Disagree k (length roster) A i F G → Dictates k roster A (ask i) (says is-open) A
-  showed-off : {A : Accepted} {i : ℕ} {a b : List ℕ} → length roster ≤ i → Dictates k roster A (show i a b) (lent (refused 12) a b) A
-  showed-decided : {A : Accepted} {i : ℕ} {a b : List ℕ} → i < length roster → Decided k (length roster) A i
+  asked-off : {A : Ledger} {i : ℕ} → length roster ≤ i → Dictates k roster A (ask i) (says (refused 12)) A
+  asked-last : {A : Ledger} {i : ℕ} → i < length roster → LastInAll k (length roster) (A .accepted) i → Dictates k roster A (ask i) (says is-last) A
+  asked-not : {A : Ledger} {i : ℕ} → i < length roster → LastInNone k (length roster) (A .accepted) i → Dictates k roster A (ask i) (says not-last) A
+  asked-open : {A : Ledger} {i : ℕ} {F G : History} → i < length roster → Disagree k (length roster) (A .accepted) i F G → Dictates k roster A (ask i) (says is-open) A
+  showed-off : {A : Ledger} {i : ℕ} {a b : List ℕ} → length roster ≤ i → Dictates k roster A (show i a b) (lent (refused 12) a b) A
+  showed-decided : {A : Ledger} {i : ℕ} {a b : List ℕ} → i < length roster → Decided k (length roster) (A .accepted) i
       → Dictates k roster A (show i a b) (lent decided a b) A
-  showed-short : {A : Accepted} {i : ℕ} {a b : List ℕ} {F G : History} → i < length roster → Disagree k (length roster) A i F G
+  showed-short : {A : Ledger} {i : ℕ} {a b : List ℕ} {F G : History} → i < length roster → Disagree k (length roster) (A .accepted) i F G
       → (length a < 16 * length roster) ⊎ (length b < 16 * length roster) → Dictates k roster A (show i a b) (lent (refused 13) a b) A
-  showed : {A : Accepted} {i : ℕ} {a b a′ b′ : List ℕ} {F G : History} → i < length roster → 16 * length roster ≤ length a → 16 * length roster ≤ length b
-      → Disagree k (length roster) A i F G → Holds (length roster) a a′ F → Holds (length roster) b b′ G
+  showed : {A : Ledger} {i : ℕ} {a b a′ b′ : List ℕ} {F G : History} → i < length roster → 16 * length roster ≤ length a → 16 * length roster ≤ length b
+      → Disagree k (length roster) (A .accepted) i F G → Holds (length roster) a a′ F → Holds (length roster) b b′ G
       → Dictates k roster A (show i a b) (lent shown a′ b′) A
-  checked-short : {A : Accepted} {h : List ℕ} → length h < 16 * length roster → Dictates k roster A (check h) (says (refused 13)) A
-  checked-off : {A : Accepted} {h : List ℕ} (p q : ℕ) → 16 * length roster ≤ length h → historyIn (length roster) h p q ≡ true → length roster ≤ q
+  checked-short : {A : Ledger} {h : List ℕ} → length h < 16 * length roster → Dictates k roster A (check h) (says (refused 13)) A
+  checked-off : {A : Ledger} {h : List ℕ} (p q : ℕ) → 16 * length roster ≤ length h → historyIn (length roster) h p q ≡ true → length roster ≤ q
       → Dictates k roster A (check h) (says (refused 15)) A
-  checked-fits : {A : Accepted} {h : List ℕ} → 16 * length roster ≤ length h → Fits k (length roster) A (historyIn (length roster) h)
+  checked-fits : {A : Ledger} {h : List ℕ} → 16 * length roster ≤ length h → Fits k (length roster) (A .accepted) (historyIn (length roster) h)
       → Dictates k roster A (check h) (says fits) A
-  checked-not : {A : Accepted} {h : List ℕ} → 16 * length roster ≤ length h → ((p q : ℕ) → historyIn (length roster) h p q ≡ true → q < length roster)
-      → ¬ (Fits k (length roster) A (historyIn (length roster) h)) → Dictates k roster A (check h) (says fits-not) A
-  whole-settled : {A : Accepted} → ((i : ℕ) → i < length roster → Decided k (length roster) A i) → Dictates k roster A whole (says settled) A
-  whole-open : {A : Accepted} {i : ℕ} {F G : History} → i < length roster → Disagree k (length roster) A i F G → Dictates k roster A whole (says unsettled) A
-  gave-unmourned : {A : Accepted} {S : Row} → Unmourned (length roster) A S → Dictates k roster A unmourned (places S) A
-  gave-absent : {A : Accepted} {S U : Row} → Unmourned (length roster) A U → ((q : ℕ) → (S q ≡ true) ↔ ((U q ≡ true) × (A .returned q ≡ false)))
+  checked-not : {A : Ledger} {h : List ℕ} → 16 * length roster ≤ length h → ((p q : ℕ) → historyIn (length roster) h p q ≡ true → q < length roster)
+      → ¬ (Fits k (length roster) (A .accepted) (historyIn (length roster) h)) → Dictates k roster A (check h) (says fits-not) A
+  whole-settled : {A : Ledger} → ((i : ℕ) → i < length roster → Decided k (length roster) (A .accepted) i) → Dictates k roster A whole (says settled) A
+  whole-open : {A : Ledger} {i : ℕ} {F G : History} → i < length roster → Disagree k (length roster) (A .accepted) i F G → Dictates k roster A whole (says unsettled) A
+  gave-unmourned : {A : Ledger} {S : Row} → Unmourned (length roster) (A .accepted) S → Dictates k roster A unmourned (places S) A
+  gave-absent : {A : Ledger} {S U : Row} → Unmourned (length roster) (A .accepted) U → ((q : ℕ) → (S q ≡ true) ↔ ((U q ≡ true) × (A .accepted .returned q ≡ false)))
       → Dictates k roster A unmourned-absent (places S) A
-  gave-count : {A : Accepted} {U : Row} → Unmourned (length roster) A U → Dictates k roster A unmourned-count (number (count (length roster) U)) A
-  found-at : {A : Accepted} {x p : ℕ} → p < length roster → getD roster p 0 ≡ x → Dictates k roster A (find x) (number p) A
-  found-none : {A : Accepted} {x : ℕ} → ((p : ℕ) → p < length roster → ¬ (getD roster p 0 ≡ x)) → Dictates k roster A (find x) (says not-found) A
-  wrote-off : {A : Accepted} {p at : ℕ} {out : List ℕ} → length roster ≤ p → Dictates k roster A (write p out at) (lent-one (refused 12) out) A
-  wrote-absent : {A : Accepted} {p at : ℕ} {out : List ℕ} → p < length roster → A .returned p ≡ false
+  gave-count : {A : Ledger} {U : Row} → Unmourned (length roster) (A .accepted) U → Dictates k roster A unmourned-count (number (count (length roster) U)) A
+  found-first : {A : Ledger} {x p : ℕ} → p < length roster → getD roster p 0 ≡ x → Dictates k roster A (find x) (says (first-of p)) A
+  found-second : {A : Ledger} {x p : ℕ} → p < length roster → ¬ (x ≡ 0) → getD (A .seconds) p 0 ≡ x → Dictates k roster A (find x) (says (second-of p)) A
+  found-none : {A : Ledger} {x : ℕ} → (x ≡ 0) ⊎ (¬ (KnownSerial roster (A .seconds) x)) → Dictates k roster A (find x) (says not-found) A
+  gave-off : {A : Ledger} {p x : ℕ} → length roster ≤ p → Dictates k roster A (give p x) (says (refused 12)) A
+  gave-zero : {A : Ledger} {p x : ℕ} → p < length roster → x ≡ 0 → Dictates k roster A (give p x) (says (refused 4)) A
+  gave-known : {A : Ledger} {p x : ℕ} → p < length roster → ¬ (x ≡ 0) → KnownSerial roster (A .seconds) x ⊎ (¬ (getD (A .seconds) p 0 ≡ 0))
+      → Dictates k roster A (give p x) (says (refused 16)) A
+  gave : {A : Ledger} {p x : ℕ} → p < length roster → ¬ (x ≡ 0) → ¬ (KnownSerial roster (A .seconds) x) → getD (A .seconds) p 0 ≡ 0
+      → Dictates k roster A (give p x) (says given) (noting A p x)
+  wrote-off : {A : Ledger} {p at : ℕ} {out : List ℕ} → length roster ≤ p → Dictates k roster A (write p out at) (lent-one (refused 12) out) A
+  wrote-absent : {A : Ledger} {p at : ℕ} {out : List ℕ} → p < length roster → A .accepted .returned p ≡ false
       → Dictates k roster A (write p out at) (lent-one (refused 14) out) A
-  wrote-short : {A : Accepted} {p at : ℕ} {out : List ℕ} → p < length roster → A .returned p ≡ true → length out < endIn k roster A p at
+  wrote-short : {A : Ledger} {p at : ℕ} {out : List ℕ} → p < length roster → A .accepted .returned p ≡ true → length out < endIn k roster (A .accepted) p at
       → Dictates k roster A (write p out at) (lent-one (refused 13) out) A
-  wrote : {A : Accepted} {p at : ℕ} {out out′ : List ℕ} → p < length roster → A .returned p ≡ true → endIn k roster A p at ≤ length out
-      → length out′ ≡ length out → take at out′ ≡ take at out → drop (endIn k roster A p at) out′ ≡ drop (endIn k roster A p at) out
-      → stored (drop at out′) ≡ got (recordIn k roster A p) (drop (endIn k roster A p at) out′)
-      → Dictates k roster A (write p out at) (lent-one (ends (endIn k roster A p at)) out′) A
+  wrote : {A : Ledger} {p at : ℕ} {out out′ : List ℕ} → p < length roster → A .accepted .returned p ≡ true → endIn k roster (A .accepted) p at ≤ length out
+      → length out′ ≡ length out → take at out′ ≡ take at out → drop (endIn k roster (A .accepted) p at) out′ ≡ drop (endIn k roster (A .accepted) p at) out
+      → stored itself (drop at out′) ≡ got (recordIn k roster (A .accepted) p) (drop (endIn k roster (A .accepted) p at) out′)
+      → Dictates k roster A (write p out at) (lent-one (ends (endIn k roster (A .accepted) p at)) out′) A
 
--- a whole list of calls: each has the outcome that the records accepted before it dictate
-pub data Whole (k : Kind) (roster : List ℕ) : Accepted → List Call → List Outcome → Type 0 where
-  end : {A : Accepted} → Whole k roster A [] []
-  then : {A B : Accepted} {c : Call} {o : Outcome} {cs : List Call} {os : List Outcome}
+-- a whole list of calls: each has the outcome that the records accepted and the second serials given before it dictate
+pub data Whole (k : Kind) (roster : List ℕ) : Ledger → List Call → List Outcome → Type 0 where
+  end : {A : Ledger} → Whole k roster A [] []
+  then : {A B : Ledger} {c : Call} {o : Outcome} {cs : List Call} {os : List Outcome}
       → Dictates k roster A c o B → Whole k roster B cs os → Whole k roster A (c ∷ cs) (o ∷ os)

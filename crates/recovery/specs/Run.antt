@@ -3,8 +3,10 @@
 use mathlib.Core.Bool.{cond}
 use mathlib.Core.List.{List, [], _∷_}
 use Prim.Native.Nat.{ℕ}
-use Rattle.places.specs.declared.Found.{Found}
-use Rattle.places.specs.declared.Found.the-variants.{At, Nothing}
+use Rattle.rosters.specs.declared.Finding.{Finding}
+use Rattle.rosters.specs.declared.Finding.the-variants as F
+use Rattle.groups.specs.declared.Giving.{Giving}
+use Rattle.groups.specs.declared.Giving.the-variants as Y
 use Rattle.records.specs.declared.Writing.{Writing}
 use Rattle.records.specs.declared.Writing.the-variants as W
 use Rattle.records.specs.Records.{Written}
@@ -20,9 +22,9 @@ use Rattle.shows.specs.declared.Showing.the-variants as S
 use Rattle.shows.specs.Shows.{Shown}
 use Rattle.recovery.specs.declared.Checked.{Checked}
 use Rattle.recovery.specs.declared.Checked.the-variants as C
-use Rattle.recovery.specs.Contracts.{opened, offered, asked, shown, checked, settledOf, unmournedOf, unmournedAbsentOf, unmournedCountOf, foundIn, writtenOf}
+use Rattle.recovery.specs.Contracts.{acceptedOf, secondsOf, opened, offered, asked, shown, checked, settledOf, unmournedOf, unmournedAbsentOf, unmournedCountOf, foundIn, given, writtenOf}
 use Rattle.recovery.specs.Demand as D
-use Rattle.recovery.specs.Demand.{Said, Call, offer, ask, show, check, whole, unmourned, unmourned-absent, unmourned-count, find, write, Outcome, says, lent, lent-one, places, number}
+use Rattle.recovery.specs.Demand.{Said, Ledger, Call, offer, ask, show, check, whole, unmourned, unmourned-absent, unmourned-count, find, give, write, Outcome, says, lent, lent-one, places, number}
 
 -- ---- document 01's word and number for each answer of the code
 
@@ -55,9 +57,14 @@ unfoldable pub writingSays : Writing → Said
 writingSays (W.Next e) = D.ends e
 writingSays (W.Refused j) = D.refused j
 
-unfoldable pub foundGives : Found → Outcome
-foundGives (At p) = number (p .0)
-foundGives Nothing = says D.not-found
+unfoldable pub foundSays : Finding → Said
+foundSays (F.First p) = D.first-of (p .0)
+foundSays (F.Second p) = D.second-of (p .0)
+foundSays F.Nothing = D.not-found
+
+unfoldable pub givingSays : Giving → Said
+givingSays Y.Given = D.given
+givingSays (Y.Refused j) = D.refused j
 
 unfoldable pub shownGives : Shown → Outcome
 shownGives s = lent (showingSays (s .answer)) (s .first) (s .second)
@@ -76,10 +83,11 @@ outcome r whole = says (cond (settledOf r) D.settled D.unsettled)
 outcome r unmourned = places (unmournedOf r)
 outcome r unmourned-absent = places (unmournedAbsentOf r)
 outcome r unmourned-count = number (unmournedCountOf r)
-outcome r (find x) = foundGives (foundIn r x)
+outcome r (find x) = says (foundSays (foundIn r x))
+outcome r (give p x) = says (givingSays (given r p x .answer))
 outcome r (write p out at) = writtenGives (writtenOf r p out at)
 
--- only offering returns a recovery; every other call leaves it as it is
+-- only offering and giving return a recovery; every other call leaves it as it is
 unfoldable pub next : Recovery → Call → Recovery
 next r (offer bytes) = offered r bytes .recovery
 next r (ask i) = r
@@ -90,11 +98,16 @@ next r unmourned = r
 next r unmourned-absent = r
 next r unmourned-count = r
 next r (find x) = r
+next r (give p x) = given r p x .recovery
 next r (write p out at) = r
 
 unfoldable pub run : Recovery → List Call → List Outcome
 run r [] = []
 run r (c ∷ cs) = outcome r c ∷ run (next r c) cs
+
+-- what a recovery holds of what stands beside it
+abbrev pub ledgerOf : Recovery → Ledger
+ledgerOf r = record { accepted = acceptedOf r; seconds = secondsOf r }
 
 -- the recovery after a list of calls
 unfoldable pub left : Recovery → List Call → Recovery

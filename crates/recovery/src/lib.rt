@@ -1,34 +1,36 @@
-// A recovery: the kind and the roster of a group, who is back, and their rows. It goes in by value and comes back by value, and keeps
-// nothing that depends on the order in which records came. The definitions that the contracts cite stand in specs/Contracts.antt;
-// demand 3, over whole lists of calls, in specs/Demand.antt and proofs/Demand.antt.
+// A recovery: the kind, the roster and the second serials of a group, who is back, and their rows. It goes in by value and comes back by
+// value, and keeps nothing that depends on the order in which records came. The definitions that the contracts cite stand in
+// specs/Contracts.antt; demand 3, over whole lists of calls, in specs/Demand.antt and proofs/Demand.antt.
 ghost use mathlib.Core.Path.{_≡_};
-ghost use Prim.Native.Nat.{_≤_};
+ghost use Prim.Native.Nat.{_≤_, _<_};
 ghost use lib.ListN.{length};
 ghost use Rattle.places.specs.PlaceSets.{has};
 ghost use Rattle.rosters.specs.Rosters.{listed};
 ghost use Rattle.replies.specs.Replies.{judgement};
 ghost use Rattle.recovery.specs.Contracts as contracts;
-ghost use Rattle.recovery.specs.Contracts.{opened, openedAs, saying, keeping, answered, offered, asked, shown, checked, settledOf, unmournedOf, unmournedAbsentOf, unmournedCountOf, foundIn, writtenOf};
+ghost use Rattle.recovery.specs.Contracts.{opened, openedAs, saying, keeping, answered, offered, asked, shown, checked, settledOf, unmournedOf, unmournedAbsentOf, unmournedCountOf, foundIn, withSecond, given, writtenOf};
 use answers::Answer;
+use groups::Giving;
 use histories::Kind;
-use places::Found;
 use places::Place;
 use places::PlaceSet;
 use records::Reading;
 use records::Record;
 use records::Writing;
 use replies::Reply;
+use rosters::Finding;
 use rosters::Listed;
 use rosters::Serial;
 use rows::Rows;
 use shows::Showing;
 
-// The first `count` of `serials` are the roster. A place in `returned` is back, and its row is its record's mourned set; every other row is
-// empty. `mourned` has all that stand in a row.
+// The first `count` of `serials` are the roster, and `seconds` has the second serial of each place, 0 where it was given none. A place in
+// `returned` is back, and its row is its record's mourned set; every other row is empty. `mourned` has all that stand in a row.
 pub struct Recovery {
     pub kind: Kind,
     pub count: usize,
     pub serials: [u32; 128],
+    pub seconds: [u32; 128],
     pub returned: PlaceSet,
     pub mourned: PlaceSet,
     pub rows: Rows,
@@ -51,6 +53,12 @@ pub struct Offered {
     pub recovery: Recovery,
 }
 
+// What giving a second serial gives: where it is refused, the recovery is as it was.
+pub struct Gave {
+    pub answer: Giving,
+    pub recovery: Recovery,
+}
+
 pub enum Asked {
     Last,
     NotLast,
@@ -70,12 +78,14 @@ fn fresh(kind: Kind, list: &[u32]) -> Recovery
     ensures { λ r. ⌜ r ≡ contracts.fresh kind (now (list .entry)) ⌝ }
 {
     let serials = rosters::padded(list);
+    let seconds = [0u32; 128];
     let nobody = places::empty();
     let rows = rows::none();
     Recovery {
         kind,
         count: list.len(),
         serials,
+        seconds,
         returned: nobody,
         mourned: nobody,
         rows,
@@ -93,6 +103,7 @@ fn unopened(fault: u8) -> Opened
         kind: Kind::Full,
         count: 0,
         serials,
+        seconds: serials,
         returned: nobody,
         mourned: nobody,
         rows,
@@ -183,11 +194,11 @@ pub fn offer_read(r: Recovery, bytes: &[u8], x: Record) -> Offered
     apply(r, own, mourned, answer)
 }
 
-// Offers a lone record: 1 to 8, 9, repeated or 10, 11, or taken.
+// Offers a lone record: 1 to 8, 9, repeated or 10, 11, or taken. Its own and mourned serials may be second ones of the group.
 pub fn offer(r: Recovery, bytes: &[u8]) -> Offered
     ensures { λ s. ⌜ s ≡ offered r (now (bytes .entry)) ⌝ }
 {
-    let got = records::read_lone(bytes);
+    let got = groups::read_lone(r.count, &r.serials, &r.seconds, bytes);
     match got {
         Reading::Read(x) => offer_read(r, bytes, x),
         Reading::Refused(fault) => say(r, Reply::Refused(fault)),
@@ -214,13 +225,42 @@ pub fn ask(r: Recovery, place: Place) -> Asked
     }
 }
 
-// The place of a serial.
-pub fn find(r: Recovery, serial: Serial) -> Found
+// The place of a serial, and which of the place's two it is.
+pub fn find(r: Recovery, serial: Serial) -> Finding
     ensures { λ s. ⌜ s ≡ foundIn r (serial .0) ⌝ }
 {
-    let n = answers::size(r.count);
-    let serials = r.serials;
-    rosters::find(&serials[..n], serial)
+    groups::find(r.count, &r.serials, &r.seconds, serial)
+}
+
+// The recovery with a second serial for a place of the roster.
+fn with_second(r: Recovery, place: Place, serial: Serial) -> Recovery
+    requires { ⌜ place .0 < 128 ⌝ }
+    ensures { λ s. ⌜ s ≡ withSecond r (place .0) (serial .0) ⌝ }
+{
+    let mut swapped = r;
+    let p = place.0;
+    swapped.seconds[p] = serial.0;
+    swapped
+}
+
+// Gives a place a second serial: 12, 4, 16, or given. The accepted records stay as they are.
+pub fn give(r: Recovery, place: Place, serial: Serial) -> Gave
+    ensures { λ s. ⌜ s ≡ given r (place .0) (serial .0) ⌝ }
+{
+    let answer = groups::may_give(r.count, &r.serials, &r.seconds, place, serial);
+    match answer {
+        Giving::Given => {
+            let swapped = with_second(r, place, serial);
+            Gave {
+                answer: Giving::Given,
+                recovery: swapped,
+            }
+        }
+        Giving::Refused(fault) => Gave {
+            answer: Giving::Refused(fault),
+            recovery: r,
+        },
+    }
 }
 
 // The unmourned places.

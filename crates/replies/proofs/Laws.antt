@@ -2,11 +2,10 @@
 use mathlib.Core.Path.{_≡_, sym, ap, ap₂, _∙_}
 use mathlib.Core.Bool.{Bool, true, false, cond}
 use mathlib.Core.List.{List}
-use Prim.Native.Nat.{ℕ, _≤_, _<_}
+use Prim.Native.Nat.{ℕ, _<_}
 use native.Mathlib.Omega.{arith}
 use native.Mathlib.Decide.{decLt}
-use lib.ListN.{length, take}
-use lib.Seq.{take-length, take-all}
+use lib.ListN.{take}
 use Rattle.places.specs.Sets.{Places, below, intersection, same}
 use Rattle.places.specs.PlaceSets.{has, kept}
 use Rattle.places.specs.declared.PlaceSet.{PlaceSet}
@@ -80,13 +79,6 @@ same-cut count R w p all m named row b e f g = both-ways _ _ to from
             ∙ sym (is-row q ∙ is-false (A .row p q) (λ h. l (accepted-on count R w .row-on p q h)))
 
 -- ---- a record that was read
-
-pub take-short : (l : List ℕ) (n a : ℕ) → n ≡ a → take n l ≡ take a l
-take-short l n a e = ap (λ (m : ℕ). take m l) e
-
--- of a list no longer than a, its first a are the whole
-pub take-long : (l : List ℕ) (n a : ℕ) → n ≡ a → length l ≤ n → take (length l) l ≡ take a l
-take-long l n a e h = take-length l ∙ sym (take-all a l (omega (arith, e, h)))
 
 module _ (k : Kind) (count : ℕ) (s : List ℕ) (R : Places) (w b : List ℕ) (x : Record) where
   pub judged-kind : sameKind (x .kind) k ≡ false → O.Refused 9 ≡ judgement k count s R w b x

@@ -21,18 +21,6 @@ pub enum Reply {
     Refused(u8),
 }
 
-// How many of the serials are the roster: no more than there are.
-fn roster_length(count: usize, serials: &[u32]) -> usize
-    ensures { λ m. ⌜ m ≤ length (now (serials .entry)) ⌝ }
-    ensures { λ m. ⌜ take m (now (serials .entry)) ≡ take (size count) (now (serials .entry)) ⌝ }
-{
-    let n = answers::size(count);
-    if n < serials.len() {
-        return n;
-    }
-    serials.len()
-}
-
 // Whether two kinds are the same.
 fn same_kind(a: Kind, b: Kind) -> bool
     ensures { λ s. ⌜ s ≡ sameKind a b ⌝ }
@@ -97,7 +85,7 @@ pub fn judge<'a>(
 ) -> Reply
     ensures { λ s. ⌜ s ≡ judgement kind count (now (serials .entry)) (has returned) (now (rows .entry)) (now (bytes .entry)) x ⌝ }
 {
-    let n = roster_length(count, serials);
+    let n = groups::roster_length(count, serials);
     let theirs = x.kind;
     if !same_kind(theirs, kind) {
         return Reply::Refused(9);

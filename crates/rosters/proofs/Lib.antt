@@ -1,4 +1,6 @@
--- `Laws` and `Pads` are what a crate above cites; `Marks` is for `first_fault`.
+-- `Cases` computes document 02's example; `Laws`, `Pads` and `Seconds` are what a crate above cites; `Marks` is for `first_fault`.
+pub mod Cases
 pub mod Laws
 pub mod Pads
+pub mod Seconds
 pub mod Marks

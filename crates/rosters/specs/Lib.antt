@@ -1,1 +1,3 @@
+-- `Rosters` has lists of serials taken as rosters; `Seconds` the second serials that places were given.
 pub mod Rosters
+pub mod Seconds

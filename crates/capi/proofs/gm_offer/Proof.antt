@@ -32,16 +32,17 @@ returns c =
     let j = c .before .before .before .before .before .before in
     let g = j .before .before .before .before in
     let r = g .before .before in
-    offers-read _ _ _ _ _ _ (r .before .before .before .before .before .read-head .ensures) _ (sym (r .read-lone .ensures) ∙ g .got .given .1) _ (j .judge .ensures) _ _ _ _ (c .answer-with .ensures)
+    offers-read _ _ _ _ _ _ _ (r .before .before .before .before .before .before .before .read-head .ensures) _ (sym (r .read-lone .ensures) ∙ g .got .given .1) _ (j .judge .ensures) _ _ _ _ (c .answer-with .ensures)
 
 returns-2 : tie.Need-returns-2
 returns-2 c =
     let g = c .before in
     let r = g .before .before in
-    let a = r .before .before .before .before .before .before .before .before .before .args in
-    let l : length (a .head .now) ≡ 4 = search needs in
-    let m : length (a .mourned .now) ≡ 2 = search needs in
-    offers-unread _ _ _ _ _ _ (sym (r .read-lone .ensures) ∙ g .got2 .given .1) l m
+    let h = r .before .before .before .before .before .before .before in
+    let s = h .before .before .before .before in
+    let l : length (s .args .head .now) ≡ 4 = read-head-requires (h .before) (s .κs .0, tt) in
+    let m : length (s .args .mourned .now) ≡ 2 = read-set-requires (r .before .before .before .before) (s .κs .0, tt) in
+    offers-unread _ _ _ _ _ _ _ (h .read-head .ensures) _ (sym (r .read-lone .ensures) ∙ g .got2 .given .1) l m
 
 pub gm-offer-spec : {M : Type 1} → statement M
 gm-offer-spec =

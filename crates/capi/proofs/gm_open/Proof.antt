@@ -23,14 +23,14 @@ returns : tie.Need-returns
 returns c =
     let w = c .before .before in
     let t = w .before .before in
-    let o = t .before .before .before .before .before .before .before in
-    opens-done _ _ _ _ _ _ _ (o .open .ensures) (t .enum-told .given .1) _ _ (w .write-head .ensures) (c .put-set .ensures)
+    let o = t .before .before .before .before .before .before .before .before in
+    opens-done _ _ _ _ _ _ _ _ (o .open .ensures) (t .enum-told .given .1) _ _ (w .write-head .ensures) (c .put-set .ensures)
 
 returns-2 : tie.Need-returns-2
 returns-2 c =
     let a = c .before in
-    let o = a .before .before .before .before .before .before .before in
-    opens-refused _ _ _ _ _ _ _ (o .open .ensures) _ (a .answer .given .1)
+    let o = a .before .before .before .before .before .before .before .before in
+    opens-refused _ _ _ _ _ _ _ _ (o .open .ensures) _ (a .answer .given .1)
 
 pub gm-open-spec : {M : Type 1} → statement M
 gm-open-spec =

@@ -18,10 +18,10 @@ yes-code-requires : tie.Need-yes-code-requires
 yes-code-requires c κs = search needs
 
 returns : tie.Need-returns
-returns c = λ serials.
+returns c = λ serials seconds.
     let m = c .before .before in
     let h = m .before .before .before in
-    c .yes-code .ensures ∙ settled-is _ _ _ _ (h .read-head .ensures) (m .read-set .ensures) _ _ _ (c .before .settled .ensures)
+    c .yes-code .ensures ∙ settled-is _ _ _ _ (h .read-head .ensures) (m .read-set .ensures) _ _ _ _ (c .before .settled .ensures)
 
 pub gm-settled-spec : {M : Type 1} → statement M
 gm-settled-spec =

@@ -19,9 +19,9 @@ put-set-requires : tie.Need-put-set-requires
 put-set-requires c κs = search needs
 
 returns : tie.Need-returns
-returns c = λ serials rows.
+returns c = λ serials seconds rows.
     let u = c .before .before in
-    c .put-set .ensures ∙ unmourned-is _ _ _ _ (u .before .before .before .read-head .ensures) (u .before .read-set .ensures) _ _ _ (u .unmourned .ensures) (omega arith)
+    c .put-set .ensures ∙ unmourned-is _ _ _ _ (u .before .before .before .read-head .ensures) (u .before .read-set .ensures) _ _ _ _ (u .unmourned .ensures) (omega arith)
 
 pub gm-unmourned-spec : {M : Type 1} → statement M
 gm-unmourned-spec =

@@ -22,10 +22,10 @@ put-set-requires : tie.Need-put-set-requires
 put-set-requires c κs = search needs
 
 returns : tie.Need-returns
-returns c = λ serials rows.
+returns c = λ serials seconds rows.
     let d = c .before .before in
     let u = d .before in
-    c .put-set .ensures ∙ absent-is _ _ _ _ (u .before .before .before .before .read-head .ensures) (u .before .read-set .ensures) _ _ _ (u .unmourned .ensures) _ (omega (arith, d .difference .ok)) (d .difference .ensures)
+    c .put-set .ensures ∙ absent-is _ _ _ _ (u .before .before .before .before .read-head .ensures) (u .before .read-set .ensures) _ _ _ _ (u .unmourned .ensures) _ (omega (arith, d .difference .ok)) (d .difference .ensures)
 
 pub gm-unmourned-absent-spec : {M : Type 1} → statement M
 gm-unmourned-absent-spec =

@@ -17,9 +17,9 @@ count-requires : tie.Need-count-requires
 count-requires c κs = search needs
 
 returns : tie.Need-returns
-returns c = λ serials rows.
+returns c = λ serials seconds rows.
     let u = c .before in
-    count-is _ _ _ _ (u .before .before .before .read-head .ensures) (u .before .read-set .ensures) _ _ _ (u .unmourned .ensures) _ (c .count .ensures)
+    count-is _ _ _ _ (u .before .before .before .read-head .ensures) (u .before .read-set .ensures) _ _ _ _ (u .unmourned .ensures) _ (c .count .ensures)
 
 pub gm-unmourned-count-spec : {M : Type 1} → statement M
 gm-unmourned-count-spec =

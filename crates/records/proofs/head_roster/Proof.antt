@@ -9,21 +9,21 @@ use Rattle.records.proofs.head_roster.Tie as tie
 
 returns : tie.Need-returns
 unfolding headOf
-returns c = (after-early _ _ _ _ (c .if1 .taken), tt)
+returns c = (after-early _ _ _ _ _ (c .if1 .taken), tt)
 
 shared-slice-read-n : tie.Need-shared-slice-read-n
 shared-slice-read-n c = search needs
 
 cast-n : tie.Need-cast-n
-cast-n c = omega (arith, c .shared-slice-known2 .given (c .before .before .before .args .at))
+cast-n c = omega (arith, c .shared-slice-known4 .given (c .before .before .before .before .before .args .at))
 
 returns-2 : tie.Need-returns-2
 unfolding headOf
-returns-2 c = (after-few _ _ _ _ (c .before .before .if1 .left) (c .if2 .taken), tt)
+returns-2 c = (after-few _ _ _ _ _ (c .before .before .if1 .left) (c .if2 .taken), tt)
 
 returns-3 : tie.Need-returns-3
 unfolding headOf
-returns-3 c = (after-many _ _ _ _ (c .before .before .before .if1 .left) (c .before .if2 .left) (c .if3 .taken), tt)
+returns-3 c = (after-many _ _ _ _ _ (c .before .before .before .if1 .left) (c .before .if2 .left) (c .if3 .taken), tt)
 
 add-read-roster : tie.Need-add-read-roster
 add-read-roster c = search needs
@@ -35,7 +35,7 @@ returns-4 : tie.Need-returns-4
 unfolding headOf
 returns-4 c =
     let r = c .before .read-roster in
-    (after-fault _ _ _ _ (c .before .before .before .before .before .before .if1 .left) (c .before .before .before .before .if2 .left) (c .before .before .before .if3 .left) (r .result) _ _ (r .ensures .0) (c .if4 .taken), tt)
+    (after-fault _ _ _ _ _ (c .before .before .before .before .before .before .if1 .left) (c .before .before .before .before .if2 .left) (c .before .before .before .if3 .left) (r .result) _ _ (r .ensures .0) (c .if4 .taken), tt)
 
 add-on-roster : tie.Need-add-on-roster
 add-on-roster c = search needs
@@ -50,8 +50,8 @@ returns-5 c =
     let n = e .before .before .before in
     let o = c .on-roster .ensures in
     let z = e .if4 .left in (
-      rw o (after-read _ _ _ _ (n .before .before .before .if1 .left) (n .before .if2 .left) (n .if3 .left) _ _ (r .ensures .0 ∙ coded-none _ _ _ z)),
-      rw o (on-in _ _ _ _ _ _ (r .ensures .1 z)),
+      rw o (after-read _ _ _ _ _ (n .before .before .before .if1 .left) (n .before .if2 .left) (n .if3 .left) _ _ (r .ensures .0 ∙ coded-none _ _ _ z)),
+      rw o (on-in _ _ _ _ _ _ _ (r .ensures .1 z)),
     )
 
 pub head-roster-spec : {M : Type 1} → statement M

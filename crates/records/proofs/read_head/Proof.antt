@@ -28,14 +28,14 @@ head-roster-requires c κs =
 
 returns : tie.Need-returns
 unfolding ownerOf headOf
-returns c = (c .before .before .before .read-owner .ensures .0 ∙ rw (c .before .fault .given .1), tt)
+returns c = (c .before .before .before .read-owner .ensures .0 _ ∙ rw (c .before .fault .given .1), tt)
 
 returns-2 : tie.Need-returns-2
 unfolding ownerOf
 returns-2 c =
-    let a = c .before .before .before .before .before .before .before .args in
+    let a = c .before .before .before .before .before .before .before .before .before .args in
     let e : a .at + 5 + 1 ≡ a .at + 6 = omega arith in
-    (c .before .before .before .before .before .read-owner .ensures .0 ∙ rw (c .before .before .before .kind .given .1) (c .head-roster .ensures .0), rw e at (c .head-roster .ensures .1))
+    (c .before .before .before .before .before .read-owner .ensures .0 _ ∙ rw (c .before .before .before .kind .given .1) (c .head-roster .ensures .0), rw e at (c .head-roster .ensures .1))
 
 pub read-head-spec : {M : Type 1} → statement M
 read-head-spec =

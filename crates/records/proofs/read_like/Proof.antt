@@ -52,18 +52,18 @@ read-rest-requires c κs =
     let w = i .is-like .ensures (not-false _ (c .before .if1 .left)) in
     let k = i .before .before in
     let o = c .on-roster .ensures in
-    let a = k .before .before .before .before .before .before .args in
+    let a = k .before .before .before .before .before .before .before .args in
     let e : a .at + 5 + 1 ≡ a .at + 6 = omega arith in (
-      k .before .before .read-owner .ensures .0 ∙ rw (k .kind .given .1, o, ← e) (after-read _ _ _ _ (w .inside) (w .some) (w .few) (length (a .list .now)) (a .list .now) (w .parsed)),
-      rw (o, ← e) (on-in _ _ _ _ _ _ (w .rostered)),
+      k .before .before .read-owner .ensures .0 _ ∙ rw (k .kind .given .1, o, ← e) (after-read _ _ _ _ _ (w .inside) (w .some) (w .few) (length (a .firsts .now)) (a .firsts .now) (w .parsed)),
+      rw (o, ← e) (on-in _ _ _ _ _ _ _ (w .rostered)),
     )
 
 returns-2 : tie.Need-returns-2
 unfolding ownerOf headOf
 returns-2 c =
     let o = c .before .before .before in
-    let a = o .before .before .before .before .args in
-    read-no-head (a .bytes .now) (a .at) (Refused _) [] (o .read-owner .ensures .0 ∙ rw (c .before .fault .given .1)) _ refl
+    let a = o .before .before .before .before .before .args in
+    read-no-head _ (a .bytes .now) (a .at) (Refused _) [] (o .read-owner .ensures .0 _ ∙ rw (c .before .fault .given .1)) _ refl
 
 returns-3 : tie.Need-returns-3
 returns-3 c = c .read-rest .ensures

@@ -15,13 +15,13 @@ enum-known-first : tie.Need-enum-known-first
 enum-known-first c = search needs
 
 returns : tie.Need-returns
-returns c = lone-more _ _ (sym (c .before .before .before .before .before .read .ensures) ∙ c .before .before .before .first .given .1) (c .if1 .taken)
+returns c = lone-more _ _ _ (sym (c .before .before .before .before .before .read .ensures) ∙ c .before .before .before .first .given .1) (c .if1 .taken)
 
 returns-2 : tie.Need-returns-2
-returns-2 c = lone-refused _ _ (sym (c .before .before .before .read .ensures) ∙ c .before .fault .given .1)
+returns-2 c = lone-refused _ _ _ (sym (c .before .before .before .read .ensures) ∙ c .before .fault .given .1)
 
 returns-3 : tie.Need-returns-3
-returns-3 c = lone-read _ _ (sym (c .before .before .before .before .before .read .ensures) ∙ c .before .before .before .first .given .1) (c .if1 .left)
+returns-3 c = lone-read _ _ _ (sym (c .before .before .before .before .before .read .ensures) ∙ c .before .before .before .first .given .1) (c .if1 .left)
 
 pub read-lone-spec : {M : Type 1} → statement M
 read-lone-spec =

@@ -8,6 +8,7 @@ use borrow.Author.Needs.{needs}
 use Rattle.places.specs.Sets.{nothing}
 use Rattle.places.specs.PlaceSets.{has, Words}
 use Rattle.places.proofs.Laws.{found-at, kept-with}
+use Rattle.rosters.specs.Seconds.{countsAs}
 use Rattle.rosters.proofs.Laws.{found-holds, found-lacks}
 use Rattle.records.specs.Layout.{mournedSerials}
 use Rattle.records.specs.Parts.{mournedOf}
@@ -16,20 +17,20 @@ use Rattle.records.proofs.read_mourned.Statement.{statement}
 use Rattle.records.proofs.read_mourned.Tie as tie
 
 abbrev Inv-loop : tie.InvT-loop
-Inv-loop bytes at m roster set₀ from₀ j₀ set from j =
+Inv-loop bytes at m roster firsts seconds set₀ from₀ j₀ set from j =
     (j ≤ m) × (at + j * 4 ≤ length bytes) × (from ≤ length roster) × Words set
-    × (mournedSerials m roster 0 nothing (drop at bytes) ≡ onwards bytes at m roster j from (has set))
+    × (mournedSerials (countsAs firsts seconds) m roster 0 nothing (drop at bytes) ≡ onwards (countsAs firsts seconds) bytes at m roster j from (has set))
 
 abbrev μ-loop : tie.MeasureT-loop
-μ-loop bytes at m roster set₀ from₀ j₀ set from j = m - j
+μ-loop bytes at m roster firsts seconds set₀ from₀ j₀ set from j = m - j
 
 empty-requires : tie.Need-empty-requires Inv-loop μ-loop
 empty-requires c κs = search needs
 
 loop-holds : tie.Need-loop-holds Inv-loop μ-loop
 loop-holds c =
-    let a = c .before .before .before .args in
-    (omega arith, omega arith, omega arith, search (needs, c .empty .ok), onwards-start (a .bytes .now) (a .at) (a .m) (a .roster .now) _ (c .empty .ensures))
+    let a = c .before .before .before .before .before .args in
+    (omega arith, omega arith, omega arith, search (needs, c .empty .ok), onwards-start _ (a .bytes .now) (a .at) (a .m) (a .roster .now) _ (c .empty .ensures))
 
 mul-p : tie.Need-mul-p Inv-loop μ-loop
 mul-p c = search needs
@@ -44,8 +45,8 @@ returns : tie.Need-returns Inv-loop μ-loop
 unfolding mournedOf
 returns c =
     let l = c .before .before in
-    let a = c .before .before .before .before .before .before .args in
-    (l .loop .inv .4 ∙ onwards-early (a .bytes .now) (a .at) (a .m) (a .roster .now) (l .loop .j) (l .loop .from) _ (omega arith) (omega arith), tt)
+    let a = c .before .before .before .before .before .before .before .before .args in
+    (l .loop .inv .4 ∙ onwards-early _ (a .bytes .now) (a .at) (a .m) (a .roster .now) (l .loop .j) (l .loop .from) _ (omega arith) (omega arith), tt)
 
 serial-at-requires : tie.Need-serial-at-requires Inv-loop μ-loop
 serial-at-requires c κs = search needs
@@ -54,11 +55,11 @@ returns-2 : tie.Need-returns-2 Inv-loop μ-loop
 unfolding mournedOf
 returns-2 c =
     let l = c .before .before .before .before .before in
-    let a = c .before .before .before .before .before .before .before .before .before .args in
-    (l .loop .inv .4 ∙ onwards-zero (a .bytes .now) (a .at) (a .m) (a .roster .now) (l .loop .j) (l .loop .from) _ (omega arith) (omega arith) _ (c .before .before .serial-at .ensures) (c .if2 .taken), tt)
+    let a = c .before .before .before .before .before .before .before .before .before .before .before .args in
+    (l .loop .inv .4 ∙ onwards-zero _ (a .bytes .now) (a .at) (a .m) (a .roster .now) (l .loop .j) (l .loop .from) _ (omega arith) (omega arith) _ (c .before .before .serial-at .ensures) (c .if2 .taken), tt)
 
-find-from-requires : tie.Need-find-from-requires Inv-loop μ-loop
-find-from-requires c κs = search needs
+locate-requires : tie.Need-locate-requires Inv-loop μ-loop
+locate-requires c κs = search needs
 
 enum-known-place : tie.Need-enum-known-place Inv-loop μ-loop
 enum-known-place c = search needs
@@ -71,11 +72,13 @@ unfolding mournedOf
 returns-3 c =
     let l = c .before .before .before .before .before .before .before .before in
     let s = c .before .before .before .before .before .before .before .before .before .before .before .before in
-    let a = s .args in
+    let a = s .before .before .args in
     let x = c .before .before .before .before .before .serial-at in
-    let f = c .before .before .find-from in
-    let e = found-along (a .roster .now) (s .pre .1 .1 .1) (l .loop .from) (x .result .0) (f .result) (f .ensures) in (
-      l .loop .inv .4 ∙ onwards-strange (a .bytes .now) (a .at) (a .m) (a .roster .now) (l .loop .j) (l .loop .from) _ (omega arith) (omega arith) (x .result .0) (x .ensures) (c .before .before .before .if2 .left) (found-lacks _ _ _ e (c .enum-told .given .1)),
+    let f = c .before .before .locate in
+    let more : l .loop .j < a .m = c .before .before .before .before .before .before .before .loop-test .taken in
+    let there : a .at + l .loop .j * 4 + 4 ≤ length (a .bytes .now) = omega (arith, c .before .before .before .before .before .before .if1 .left, l .loop .inv .1) in
+    let e = found-along (a .roster .now) (s .before .before .pre .1 .1 .1) (l .loop .from) _ (f .result) (f .ensures) in (
+      l .loop .inv .4 ∙ onwards-strange _ (a .bytes .now) (a .at) (a .m) (a .roster .now) (l .loop .j) (l .loop .from) _ more there (x .result .0) (x .ensures) (c .before .before .before .if2 .left) (found-lacks _ _ _ e (c .enum-told .given .1)),
       tt,
     )
 
@@ -84,14 +87,14 @@ unfolding mournedOf
 returns-4 c =
     let l = c .before .before .before .before .before .before .before .before .before .before .before in
     let s = c .before .before .before .before .before .before .before .before .before .before .before .before .before .before .before in
-    let a = s .args in
+    let a = s .before .before .args in
     let x = c .before .before .before .before .before .before .before .before .serial-at in
-    let f = c .before .before .before .before .before .find-from in
-    let e = found-along (a .roster .now) (s .pre .1 .1 .1) (l .loop .from) (x .result .0) (f .result) (f .ensures) in
+    let f = c .before .before .before .before .before .locate in
+    let e = found-along (a .roster .now) (s .before .before .pre .1 .1 .1) (l .loop .from) _ (f .result) (f .ensures) in
     let more : l .loop .j < a .m = c .before .before .before .before .before .before .before .before .before .before .loop-test .taken in
     let there : a .at + l .loop .j * 4 + 4 ≤ length (a .bytes .now) = omega (arith, c .before .before .before .before .before .before .before .before .before .if1 .left, l .loop .inv .1) in
     let p = c .before .before .before .place .given in (
-      l .loop .inv .4 ∙ onwards-falling (a .bytes .now) (a .at) (a .m) (a .roster .now) (l .loop .j) (l .loop .from) _ more there (x .result .0) (x .ensures) (c .before .before .before .before .before .before .if2 .left) (found-holds _ _ _ e _ (p .1)) _ (found-at _ _ _ (sym e ∙ p .1) .0) (c .if3 .taken),
+      l .loop .inv .4 ∙ onwards-falling _ (a .bytes .now) (a .at) (a .m) (a .roster .now) (l .loop .j) (l .loop .from) _ more there (x .result .0) (x .ensures) (c .before .before .before .before .before .before .if2 .left) (found-holds _ _ _ e _ (p .1)) _ (found-at _ _ _ (sym e ∙ p .1) .0) (c .if3 .taken),
       tt,
     )
 
@@ -102,10 +105,10 @@ add-from : tie.Need-add-from Inv-loop μ-loop
 add-from c =
     let l = c .before .before .before .before .before .before .before .before .before .before .before .before .before in
     let s = c .before .before .before .before .before .before .before .before .before .before .before .before .before .before .before .before .before in
-    let a = s .args in
-    let f = c .before .before .before .before .before .before .before .find-from in
-    let e = found-along (a .roster .now) (s .pre .1 .1 .1) (l .loop .from) (c .before .before .before .before .before .before .before .before .before .before .serial-at .result .0) (f .result) (f .ensures) in
-    omega (arith, s .pre .1 .1 .0, found-at _ _ _ (sym e ∙ c .before .before .before .before .before .place .given .1) .1)
+    let a = s .before .before .args in
+    let f = c .before .before .before .before .before .before .before .locate in
+    let e = found-along (a .roster .now) (s .before .before .pre .1 .1 .1) (l .loop .from) _ (f .result) (f .ensures) in
+    omega (arith, s .before .before .pre .1 .1 .0, found-at _ _ _ (sym e ∙ c .before .before .before .before .before .place .given .1) .1)
 
 add-j : tie.Need-add-j Inv-loop μ-loop
 add-j c = search needs
@@ -117,10 +120,10 @@ loop-again : tie.Need-loop-again Inv-loop μ-loop
 loop-again c =
     let l = c .before .before .before .before .before .before .before .before .before .before .before .before .before in
     let s = c .before .before .before .before .before .before .before .before .before .before .before .before .before .before .before .before .before in
-    let a = s .args in
+    let a = s .before .before .args in
     let x = c .before .before .before .before .before .before .before .before .before .before .serial-at in
-    let f = c .before .before .before .before .before .before .before .find-from in
-    let e = found-along (a .roster .now) (s .pre .1 .1 .1) (l .loop .from) (x .result .0) (f .result) (f .ensures) in
+    let f = c .before .before .before .before .before .before .before .locate in
+    let e = found-along (a .roster .now) (s .before .before .pre .1 .1 .1) (l .loop .from) _ (f .result) (f .ensures) in
     let more : l .loop .j < a .m = c .before .before .before .before .before .before .before .before .before .before .before .before .loop-test .taken in
     let there : a .at + l .loop .j * 4 + 4 ≤ length (a .bytes .now) = omega (arith, c .before .before .before .before .before .before .before .before .before .before .before .if1 .left, l .loop .inv .1) in
     let p = c .before .before .before .before .before .place .given in
@@ -131,16 +134,16 @@ loop-again c =
       omega arith,
       search (needs, w .ok),
       l .loop .inv .4
-          ∙ onwards-more (a .bytes .now) (a .at) (a .m) (a .roster .now) (l .loop .j) (l .loop .from) _ more there (x .result .0) (x .ensures) (c .before .before .before .before .before .before .before .before .if2 .left) (found-holds _ _ _ e _ (p .1)) _ (found-at _ _ _ (sym e ∙ p .1) .0) (has (w .result)) (w .ensures ∙ kept-with (l .loop .set) (p .0 .0 .0) (omega arith)) (c .before .before .if3 .left),
+          ∙ onwards-more _ (a .bytes .now) (a .at) (a .m) (a .roster .now) (l .loop .j) (l .loop .from) _ more there (x .result .0) (x .ensures) (c .before .before .before .before .before .before .before .before .if2 .left) (found-holds _ _ _ e _ (p .1)) _ (found-at _ _ _ (sym e ∙ p .1) .0) (has (w .result)) (w .ensures ∙ kept-with (l .loop .set) (p .0 .0 .0) (omega arith)) (c .before .before .if3 .left),
     )
 
 returns-5 : tie.Need-returns-5 Inv-loop μ-loop
 unfolding mournedOf
 returns-5 c =
     let l = c .before in
-    let a = c .before .before .before .before .before .args in
+    let a = c .before .before .before .before .before .before .before .args in
     let e : l .loop .j ≡ a .m = omega arith in
-    (l .loop .inv .4 ∙ onwards-done (a .bytes .now) (a .at) (a .m) (a .roster .now) (l .loop .j) (l .loop .from) _ e, (omega arith, l .loop .inv .3))
+    (l .loop .inv .4 ∙ onwards-done _ (a .bytes .now) (a .at) (a .m) (a .roster .now) (l .loop .j) (l .loop .from) _ e, (omega arith, l .loop .inv .3))
 
 pub read-mourned-spec : {M : Type 1} → statement M
 read-mourned-spec =
@@ -156,7 +159,7 @@ read-mourned-spec =
     returns
     serial-at-requires
     returns-2
-    find-from-requires
+    locate-requires
     enum-known-place
     enum-told
     returns-3

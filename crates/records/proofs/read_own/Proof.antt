@@ -13,7 +13,7 @@ returns : tie.Need-returns
 unfolding ownerOf
 returns c =
     let a = c .before .before .args in
-    (own-early (a .kind) (a .bytes .now) (a .at) (omega arith), tt)
+    ((λ alias. own-early alias (a .kind) (a .bytes .now) (a .at) (omega arith)), tt)
 
 serial-at-requires : tie.Need-serial-at-requires
 serial-at-requires c κs = search needs
@@ -22,13 +22,13 @@ returns-2 : tie.Need-returns-2
 unfolding ownerOf
 returns-2 c =
     let a = c .before .before .before .before .before .args in
-    (own-zero (a .kind) (a .bytes .now) (a .at) (omega arith) _ (c .before .before .serial-at .ensures) (c .if2 .taken), tt)
+    ((λ alias. own-zero alias (a .kind) (a .bytes .now) (a .at) (omega arith) _ (c .before .before .serial-at .ensures) (c .if2 .taken)), tt)
 
 returns-3 : tie.Need-returns-3
 unfolding ownerOf
 returns-3 c =
     let a = c .before .before .before .before .before .args in
-    (own-got (a .kind) (a .bytes .now) (a .at) (omega arith) _ (c .before .before .serial-at .ensures) (c .if2 .left), omega arith)
+    ((λ alias. own-got alias (a .kind) (a .bytes .now) (a .at) (omega arith) _ (c .before .before .serial-at .ensures) (c .if2 .left)), omega arith)
 
 pub read-own-spec : {M : Type 1} → statement M
 read-own-spec = tie.close (tie.spec sub-if1 returns serial-at-requires returns-2 returns-3)

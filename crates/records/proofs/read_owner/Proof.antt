@@ -10,7 +10,7 @@ use Rattle.records.proofs.read_owner.Tie as tie
 
 returns : tie.Need-returns
 unfolding ownerOf
-returns c = (head-early _ _ (c .if1 .taken), tt)
+returns c = ((λ alias. head-early alias _ _ (c .if1 .taken)), tt)
 
 shared-slice-read-kind : tie.Need-shared-slice-read-kind
 shared-slice-read-kind c = search needs
@@ -31,25 +31,25 @@ returns-2 : tie.Need-returns-2
 returns-2 c =
     let a = c .before .before .before .before .before .args in
     let e : a .at + 1 + 4 ≡ a .at + 5 = omega arith in
-    (head-full (a .bytes .now) (a .at) (c .before .before .before .if1 .left) (c .before .match .keys1) ∙ rw e at (c .read-own .ensures .0), rw e at (c .read-own .ensures .1))
+    ((λ alias. head-full alias (a .bytes .now) (a .at) (c .before .before .before .if1 .left) (c .before .match .keys1) ∙ rw e at (c .read-own .ensures .0 alias)), rw e at (c .read-own .ensures .1))
 
 returns-3 : tie.Need-returns-3
 returns-3 c =
     let a = c .before .before .before .before .before .args in
     let e : a .at + 1 + 4 ≡ a .at + 5 = omega arith in
-    (head-short (a .bytes .now) (a .at) (c .before .before .before .if1 .left) (c .before .match .keys2) ∙ rw e at (c .read-own2 .ensures .0), rw e at (c .read-own2 .ensures .1))
+    ((λ alias. head-short alias (a .bytes .now) (a .at) (c .before .before .before .if1 .left) (c .before .match .keys2) ∙ rw e at (c .read-own2 .ensures .0 alias)), rw e at (c .read-own2 .ensures .1))
 
 returns-4 : tie.Need-returns-4
 unfolding ownerOf
 returns-4 c =
     let a = c .before .before .before .before .args in
-    (head-unknown (a .bytes .now) (a .at) (c .before .before .if1 .left) (λ e. omega (arith, c .match .keys3)) (λ e. omega (arith, c .match .keys3)), tt)
+    ((λ alias. head-unknown alias (a .bytes .now) (a .at) (c .before .before .if1 .left) (λ e. omega (arith, c .match .keys3)) (λ e. omega (arith, c .match .keys3))), tt)
 
 returns-5 : tie.Need-returns-5
 unfolding ownerOf
 returns-5 c =
     let a = c .before .before .before .before .args in
-    (head-unknown (a .bytes .now) (a .at) (c .before .before .if1 .left) (c .match .rest .0 .0 .1) (c .match .rest .0 .1), tt)
+    ((λ alias. head-unknown alias (a .bytes .now) (a .at) (c .before .before .if1 .left) (c .match .rest .0 .0 .1) (c .match .rest .0 .1)), tt)
 
 pub read-owner-spec : {M : Type 1} → statement M
 read-owner-spec =

@@ -5,10 +5,10 @@ use Rattle.reckoning.proofs.stored.fill.Statement.{statement}
 use Rattle.reckoning.proofs.stored.fill.Tie as tie
 
 abbrev Inv-loop : tie.InvT-loop
-Inv-loop list₀ x y₀ i₀ list y i = i ≤ 130
+Inv-loop list₀ x from y₀ i₀ list y i = i ≤ 130
 
 abbrev μ-loop : tie.MeasureT-loop
-μ-loop list₀ x y₀ i₀ list y i = 130 - i
+μ-loop list₀ x from y₀ i₀ list y i = 130 - i
 
 loop-holds : tie.Need-loop-holds Inv-loop μ-loop
 loop-holds c = search needs
