@@ -74,7 +74,8 @@ pub fn one_bit(list: &mut [u32; 130], x: u32) {
     }
 }
 
-pub fn byte(n: usize) -> u8 {
+// A count as a byte, 255 where it has no room.
+pub(crate) fn byte(n: usize) -> u8 {
     if n < 256 {
         return n as u8;
     }
