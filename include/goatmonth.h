@@ -31,7 +31,9 @@ extern "C" {
 /* At most this many members, bytes of a record, and bytes of a history. */
 enum { GM_MEMBERS = 128, GM_RECORD_BYTES = 1031, GM_HISTORY_BYTES = 2048 };
 
-/* Kinds of group: in a full one all who run note a stop together, in a short one each notes what it hears itself. */
+/* Kinds of record, and of a day. A full record mourns everyone before its writer: whom it heard, whom these had heard, and so on. A
+ * short one mourns those whom its writer heard itself. On a full day all who run note a stop together, on a short one each notes what it
+ * hears, and the records of a day have its kind. A recovery has no kind: it takes records of both. */
 enum { GM_FULL = 1, GM_SHORT = 2 };
 
 /* Events of a day. */
@@ -62,8 +64,8 @@ enum {
     GM_NOT_ON_ROSTER = 6,    /* the own serial, or a mourned one, is neither on the record's roster nor second to one there */
     GM_OUT_OF_ORDER = 7,     /* the mourned places do not follow the roster's order, or one comes again */
     GM_BYTES_AFTER = 8,      /* something follows a record that has to stand alone */
-    GM_OTHER_GROUP = 9,      /* the record's kind or roster, order included, is not the recovery's */
-    GM_OTHER_RECORD = 10,    /* this member is back already, with another mourned set */
+    GM_OTHER_GROUP = 9,      /* the record's roster, order included, is not the recovery's */
+    GM_OTHER_RECORD = 10,    /* this member is back already, with another kind or mourned set */
     GM_NO_HISTORY = 11,      /* no history agrees with this record and those taken */
     GM_OFF_ROSTER = 12,      /* a place that the roster does not have */
     GM_TOO_SHORT = 13,       /* a buffer ends too early */
@@ -76,34 +78,37 @@ enum {
 
 /*
  * A recovery.
- *   head     head[0] is the kind (GM_SHORT is short, any other word counts as full), head[1] the number of members (above 128 counts
- *            as 128), head[2] and head[3] the places that are back: place k is bit k of head[2], or bit k - 64 of head[3];
- *   mourned  all places that a record taken so far names, as two words in the same way;
- *   serials  the first head[1] are the roster;
+ *   head     head[0] is the number of members (above 128 counts as 128). Four sets of places follow, two words each: place k is bit k of
+ *            the first word, or bit k - 64 of the second. head[1] and head[2] are the places that are back, head[3] and head[4] those of
+ *            them whose record is full, head[5] and head[6] all that a record taken so far mourns, head[7] and head[8] the earlier ones:
+ *            all that are before a place that is back with a full record;
+ *   serials  the first head[0] are the roster;
  *   seconds  the second serial of each place, which a new board brought: 0 where the place has none;
  *   rows     16 bytes for each place, laid out as a history: in the row of a place that is back stand the places that its record
  *            mourns, place k as bit k % 8 of byte k / 8. The row of a place that is not back is empty.
  * gm_open, gm_offer and gm_give keep it so, and then every answer is the one that the records give. A plain value: copies are
  * recoveries of their own.
  *
- * A caller that writes into the struct itself gets answers by what it wrote. Who is mourned is what `mourned` says, and no call holds
- * it against the rows: gm_ask, gm_settled, gm_show and the three gm_unmourned.. go by it, and gm_offer adds to it. The record of a
- * place that is back is its row, without bits off the roster: gm_offer, gm_check and gm_write go by these records, and so do gm_ask,
- * gm_settled and gm_show where they follow records. gm_show lays the rows of the roster down as they stand, whoever is back and with
- * all their bits, but for the one row that makes the second history differ. gm_find, gm_give and gm_offer go by `serials` and
- * `seconds`: a second serial counts as the first one of its place, and is found at the lowest place where that stands. Other bits off
- * the roster, other rows, and what stands behind the roster in `serials` and `seconds` are never looked at.
+ * A caller that writes into the struct itself gets answers by what it wrote. The full, the mourned and the earlier places are what the
+ * words say, and no call holds them against the rows. By the mourned ones go gm_ask, gm_settled, gm_show and the three gm_unmourned..,
+ * by the earlier ones gm_ask, gm_settled and gm_show; gm_offer only adds to these two. The record of a place that is back is its row,
+ * without bits off the roster, and full if the words say so: gm_offer, gm_check and gm_write go by these records, and so do gm_ask,
+ * gm_settled and gm_show where they follow records. A full place that is not back counts for nothing until it is back; then its record
+ * is full, whatever kind was offered. gm_show lays the rows of the roster down as they stand, whoever is back and with all their bits,
+ * but for the one row that makes the second history differ. gm_find, gm_give and gm_offer go by `serials` and `seconds`: a second serial
+ * counts as the first one of its place, and is found at the lowest place where that stands. Other bits off the roster, other rows, and
+ * what stands behind the roster in `serials` and `seconds` are never looked at.
  */
 typedef struct gm_recovery {
-    uint64_t head[4];
-    uint64_t mourned[2];
+    uint64_t head[9];
     uint32_t serials[128];
     uint32_t seconds[128];
     uint8_t rows[2048];
 } gm_recovery;
 
-/* A day of stops: head, serials and rows as in a recovery, but head[2] and head[3] are the places that have stopped, and every row of
- * the roster counts: whom each has heard. Bits for places off the roster are not looked at. */
+/* A day of stops: head[0] is the kind (GM_SHORT is short, any other word counts as full), head[1] the number of members (above 128 counts
+ * as 128), head[2] and head[3] the places that have stopped, as two words. Serials and rows are as in a recovery, but every row of the
+ * roster counts: whom each has heard. Bits for places off the roster are not looked at. */
 typedef struct gm_day {
     uint64_t head[4];
     uint32_t serials[128];
@@ -149,51 +154,50 @@ typedef struct gm_record {
 
 /* ---- the library: a recovery by its parts ---- */
 
-/* Opens a recovery with nobody back and no second serials: GM_DONE, or 2, 3, then 4 for a zero anywhere, then 5 for a repeat anywhere. */
-uint8_t gm_open(uint8_t kind, const uint32_t *list, size_t length, uint64_t head[4], uint64_t mourned[2], uint32_t serials[128],
-                uint32_t seconds[128], uint8_t rows[2048]);
+/* Opens a recovery with nobody back and no second serials: GM_DONE, or 3, then 4 for a zero anywhere, then 5 for a repeat anywhere. */
+uint8_t gm_open(const uint32_t *list, size_t length, uint64_t head[9], uint32_t serials[128], uint32_t seconds[128], uint8_t rows[2048]);
 
 /* Offers a lone record: GM_DONE for taken, GM_REPEATED, or 1 to 11 in this order. Only a record that is taken changes anything. Its own
  * and mourned serials may be second ones, as gm_read has it for this group; all answers go by the places so found. Its roster has to be
- * the group's first serials, else 9. */
-uint8_t gm_offer(uint64_t head[4], uint64_t mourned[2], const uint32_t serials[128], const uint32_t seconds[128], uint8_t rows[2048],
-                 const uint8_t *bytes, size_t length);
+ * the group's first serials, else 9. Records of both kinds may be offered, in any order. */
+uint8_t gm_offer(uint64_t head[9], const uint32_t serials[128], const uint32_t seconds[128], uint8_t rows[2048], const uint8_t *bytes,
+                 size_t length);
 
 /* The answer for a place: GM_LAST, GM_NOT_LAST, GM_OPEN, or 12. */
-uint8_t gm_ask(const uint64_t head[4], const uint64_t mourned[2], const uint8_t rows[2048], size_t place);
+uint8_t gm_ask(const uint64_t head[9], const uint8_t rows[2048], size_t place);
 
 /* The place of a serial, and which of the place's two it is. One that stands on the roster is a first serial, and only another is
  * looked for among the second ones, where 0 is none. So 0 is never found in a recovery that was opened. */
-gm_found gm_find(const uint64_t head[4], const uint32_t serials[128], const uint32_t seconds[128], uint32_t serial);
+gm_found gm_find(const uint64_t head[9], const uint32_t serials[128], const uint32_t seconds[128], uint32_t serial);
 
 /* Gives a place a second serial: GM_DONE and it stands in `seconds`, or 12, 4, then 16 where the serial is a first or a second one of
  * the group already, or the place has a second one. Records that were taken stay as they are; those offered later may use it. */
-uint8_t gm_give(const uint64_t head[4], const uint32_t serials[128], uint32_t seconds[128], size_t place, uint32_t serial);
+uint8_t gm_give(const uint64_t head[9], const uint32_t serials[128], uint32_t seconds[128], size_t place, uint32_t serial);
 
 /* The places that are not mourned, and those of them that are not back, as two words. No bit is off the roster. */
-void gm_unmourned(const uint64_t head[4], const uint64_t mourned[2], uint64_t out[2]);
-void gm_unmourned_absent(const uint64_t head[4], const uint64_t mourned[2], uint64_t out[2]);
+void gm_unmourned(const uint64_t head[9], uint64_t out[2]);
+void gm_unmourned_absent(const uint64_t head[9], uint64_t out[2]);
 
 /* How many places are not mourned. */
-size_t gm_unmourned_count(const uint64_t head[4], const uint64_t mourned[2]);
+size_t gm_unmourned_count(const uint64_t head[9]);
 
 /* 1 if no place is open, else 0. */
-uint8_t gm_settled(const uint64_t head[4], const uint64_t mourned[2], const uint8_t rows[2048]);
+uint8_t gm_settled(const uint64_t head[9], const uint8_t rows[2048]);
 
 /*
  * Two histories that fit, the place last in the first and not in the second: GM_DONE and both are laid down, 12, GM_DECIDED, or 13
  * where a buffer is shorter than 16 bytes a member (GM_DECIDED comes before 13). A history is the rows in roster order, 16 bytes
  * each: place k is bit k % 8 of byte k / 8. Bytes behind the rows stay as they are.
  */
-uint8_t gm_show(const uint64_t head[4], const uint64_t mourned[2], const uint8_t rows[2048], size_t place, uint8_t *first,
-                size_t first_length, uint8_t *second, size_t second_length);
+uint8_t gm_show(const uint64_t head[9], const uint8_t rows[2048], size_t place, uint8_t *first, size_t first_length, uint8_t *second,
+                size_t second_length);
 
 /* Whether a history agrees with the records: GM_FITS, GM_FITS_NOT, 13, then 15. Bytes behind the rows are not looked at. */
-uint8_t gm_check(const uint64_t head[4], const uint8_t rows[2048], const uint8_t *history, size_t length);
+uint8_t gm_check(const uint64_t head[9], const uint8_t rows[2048], const uint8_t *history, size_t length);
 
 /* Writes the record of a returned place into `out` from position `at` on: its end, or 12, 14, 13. Other bytes stay as they are. It is
- * written in first serials, whichever its bytes had when it was offered. */
-gm_end gm_write(const uint64_t head[4], const uint32_t serials[128], const uint8_t rows[2048], size_t place, uint8_t *out, size_t length,
+ * written in its kind and in first serials, whichever its bytes had when it was offered. */
+gm_end gm_write(const uint64_t head[9], const uint32_t serials[128], const uint8_t rows[2048], size_t place, uint8_t *out, size_t length,
                 size_t at);
 
 /* ---- the library: records ---- */
@@ -227,7 +231,7 @@ gm_end gm_write_record(uint8_t kind, size_t own, const uint32_t *roster, size_t 
 
 /* ---- the library: a day by its parts ---- */
 
-/* Opens a day on which all run: as gm_open. */
+/* Opens a day of a kind on which all run: GM_DONE, or 2 for an unknown kind, then 3, 4, 5 as gm_open. */
 uint8_t gm_day_open(uint8_t kind, const uint32_t *list, size_t length, uint64_t head[4], uint32_t serials[128], uint8_t rows[2048]);
 
 /* One event: GM_DONE, 12, or 14. GM_STOP needs `place` running and does not look at `other`; GM_HEAR needs `place` running and
@@ -244,19 +248,19 @@ gm_end gm_day_write(const uint64_t head[4], const uint32_t serials[128], const u
 
 /* ---- a recovery behind one pointer ---- */
 
-static inline uint8_t gm_recovery_open(gm_recovery *r, uint8_t kind, const uint32_t *list, size_t length)
+static inline uint8_t gm_recovery_open(gm_recovery *r, const uint32_t *list, size_t length)
 {
-    return gm_open(kind, list, length, r->head, r->mourned, r->serials, r->seconds, r->rows);
+    return gm_open(list, length, r->head, r->serials, r->seconds, r->rows);
 }
 
 static inline uint8_t gm_recovery_offer(gm_recovery *r, const uint8_t *bytes, size_t length)
 {
-    return gm_offer(r->head, r->mourned, r->serials, r->seconds, r->rows, bytes, length);
+    return gm_offer(r->head, r->serials, r->seconds, r->rows, bytes, length);
 }
 
 static inline uint8_t gm_recovery_ask(const gm_recovery *r, size_t place)
 {
-    return gm_ask(r->head, r->mourned, r->rows, place);
+    return gm_ask(r->head, r->rows, place);
 }
 
 static inline gm_found gm_recovery_find(const gm_recovery *r, uint32_t serial)
@@ -271,28 +275,28 @@ static inline uint8_t gm_recovery_give(gm_recovery *r, size_t place, uint32_t se
 
 static inline void gm_recovery_unmourned(const gm_recovery *r, uint64_t out[2])
 {
-    gm_unmourned(r->head, r->mourned, out);
+    gm_unmourned(r->head, out);
 }
 
 static inline void gm_recovery_unmourned_absent(const gm_recovery *r, uint64_t out[2])
 {
-    gm_unmourned_absent(r->head, r->mourned, out);
+    gm_unmourned_absent(r->head, out);
 }
 
 static inline size_t gm_recovery_unmourned_count(const gm_recovery *r)
 {
-    return gm_unmourned_count(r->head, r->mourned);
+    return gm_unmourned_count(r->head);
 }
 
 static inline uint8_t gm_recovery_settled(const gm_recovery *r)
 {
-    return gm_settled(r->head, r->mourned, r->rows);
+    return gm_settled(r->head, r->rows);
 }
 
 static inline uint8_t gm_recovery_show(const gm_recovery *r, size_t place, uint8_t *first, size_t first_length, uint8_t *second,
                                        size_t second_length)
 {
-    return gm_show(r->head, r->mourned, r->rows, place, first, first_length, second, second_length);
+    return gm_show(r->head, r->rows, place, first, first_length, second, second_length);
 }
 
 static inline uint8_t gm_recovery_check(const gm_recovery *r, const uint8_t *history, size_t length)
@@ -341,7 +345,7 @@ static inline uint8_t gm_record_read_lone(const uint8_t *bytes, size_t length, g
 /* How many members a recovery has. */
 static inline size_t gm_recovery_count(const gm_recovery *r)
 {
-    return r->head[1] < 128 ? (size_t)r->head[1] : 128;
+    return r->head[0] < 128 ? (size_t)r->head[0] : 128;
 }
 
 /* A record that may use the second serials of a recovery's group, as gm_offer reads it: its roster may be another all the same. */

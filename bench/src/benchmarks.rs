@@ -1,10 +1,10 @@
 // The library's calls beside plain Rust's, on the same input. Buffers are not cleared between calls, and all is in the cache.
-use crate::make::{self, Group, Layout, SIZES};
-use crate::plain::Kind::{self, Full, Short};
+use crate::make::{self, Group, Layout, MIXES, SIZES};
+use crate::plain::Kind::Short;
 use crate::plain::boards::Boards;
 use crate::plain::record;
 use crate::plain::recovery::{Answer, Offer, Recovery};
-use crate::plain::set::below;
+use crate::plain::set::{Set, below};
 use crate::proved;
 use crate::random::Random;
 use crate::timing::{Table, calls};
@@ -13,26 +13,22 @@ use std::hint::black_box;
 pub fn run() {
     let mut table = Table::default();
     reading(&mut table);
-    for kind in [Full, Short] {
-        offering(&mut table, kind, "offering every record");
+    for (kinds, full) in MIXES {
+        offering(&mut table, &format!("offering every record, {kinds}"), full, false);
     }
-    for kind in [Full, Short] {
-        offering(&mut table, kind, BY_SECONDS);
+    for (kinds, full) in MIXES {
+        offering(&mut table, &format!("offering every record by second serials, {kinds}"), full, true);
     }
-    for kind in [Full, Short] {
-        asking(&mut table, kind);
+    for (kinds, full) in MIXES {
+        asking(&mut table, kinds, full);
     }
-    for kind in [Full, Short] {
-        showing(&mut table, kind);
+    for (kinds, full) in MIXES {
+        showing(&mut table, kinds, full);
     }
-    for kind in [Full, Short] {
-        checking(&mut table, kind);
+    for (kinds, full) in MIXES {
+        checking(&mut table, kinds, full);
     }
     table.print();
-}
-
-fn word(kind: Kind) -> &'static str {
-    if kind == Full { "full" } else { "short" }
 }
 
 // The longest record of a roster: all are mourned.
@@ -61,15 +57,15 @@ struct Scene {
     plain: Recovery,
 }
 
-fn scene(seed: u64, kind: Kind, n: usize, percent: usize, taken: usize) -> Scene {
+fn scene(seed: u64, full: Set, n: usize, percent: usize, taken: usize) -> Scene {
     let mut random = Random::new(seed);
-    let truth = make::history_of(&mut random, kind, n, percent);
-    let group = Group { kind, roster: make::ordered("random order", n), truth };
+    let truth = make::history_of(&mut random, full, n, percent);
+    let group = Group { full, roster: make::ordered("random order", n), truth };
     let mut records: Vec<Vec<u8>> = (0..n).map(|p| group.record(p).bytes()).collect();
     random.shuffle(&mut records);
     let mut library = Box::new(proved::Recovery::zero());
-    library.open(kind as u8, &group.roster);
-    let mut plain = Recovery::new(kind, &group.roster);
+    library.open(&group.roster);
+    let mut plain = Recovery::new(&group.roster);
     for record in &records[..taken] {
         assert_eq!((library.offer(record), plain.offer(record).is_ok()), (0, true));
     }
@@ -77,13 +73,11 @@ fn scene(seed: u64, kind: Kind, n: usize, percent: usize, taken: usize) -> Scene
 }
 
 // Half of the members are back, each of which has heard about two others; with an open place.
-fn half_back(kind: Kind, n: usize) -> (Scene, usize) {
-    let scenes = (0..).map(|seed| scene(seed, kind, n, 400 / n, n / 2));
+fn half_back(full: Set, n: usize) -> (Scene, usize) {
+    let scenes = (0..).map(|seed| scene(seed, full, n, 400 / n, n / 2));
     let open = |scene: &Scene| (0..n).rfind(|&place| scene.plain.ask(place) == Ok(Answer::Open));
     scenes.filter_map(|scene| open(&scene).map(|place| (scene, place))).next().expect("one of them all")
 }
-
-const BY_SECONDS: &str = "offering every record by second serials";
 
 // Every board is changed: both recoveries are given the second serials, and the records have no others but in their rosters.
 fn change_boards(scene: &mut Scene) {
@@ -99,10 +93,10 @@ fn change_boards(scene: &mut Scene) {
 }
 
 // Every member's record, taken one after the other by a recovery that goes back to nobody returned each time.
-fn offering(table: &mut Table, kind: Kind, what: &str) {
+fn offering(table: &mut Table, what: &str, full: Set, changed: bool) {
     for n in SIZES {
-        let mut scene = scene(0, kind, n, 50, 0);
-        if what == BY_SECONDS {
+        let mut scene = scene(0, full, n, 50, 0);
+        if changed {
             change_boards(&mut scene);
         }
         let Scene { records, mut library, mut plain, .. } = scene;
@@ -119,26 +113,26 @@ fn offering(table: &mut Table, kind: Kind, what: &str) {
                 records.iter().for_each(|record| _ = black_box(plain.offer(black_box(record))));
             },
         );
-        table.add(&format!("{what}, {}", word(kind)), n, times);
+        table.add(what, n, times);
     }
 }
 
 // All places, with half of the members back.
-fn asking(table: &mut Table, kind: Kind) {
+fn asking(table: &mut Table, kinds: &str, full: Set) {
     for n in SIZES {
-        let (Scene { library, plain, .. }, _) = half_back(kind, n);
+        let (Scene { library, plain, .. }, _) = half_back(full, n);
         let times = calls(
             || (0..n).for_each(|place| _ = black_box(library.ask(black_box(place)))),
             || (0..n).for_each(|place| _ = black_box(plain.ask(black_box(place)))),
         );
-        table.add(&format!("asking every place, {}", word(kind)), n, times);
+        table.add(&format!("asking every place, {kinds}"), n, times);
     }
 }
 
 // The last open place.
-fn showing(table: &mut Table, kind: Kind) {
+fn showing(table: &mut Table, kinds: &str, full: Set) {
     for n in SIZES {
-        let (Scene { library, plain, .. }, place) = half_back(kind, n);
+        let (Scene { library, plain, .. }, place) = half_back(full, n);
         let (mut first, mut second) = (vec![0; 2048], vec![0; 2048]);
         assert_eq!((library.show(place, &mut first, &mut second), plain.show(place, &mut first, &mut second).is_ok()), (0, true));
         let (mut their_first, mut their_second) = (vec![0; 2048], vec![0; 2048]);
@@ -146,17 +140,17 @@ fn showing(table: &mut Table, kind: Kind) {
             || _ = black_box(library.show(black_box(place), &mut their_first, &mut their_second)),
             || _ = black_box(plain.show(black_box(place), &mut first, &mut second)),
         );
-        table.add(&format!("showing a place, {}", word(kind)), n, times);
+        table.add(&format!("showing a place, {kinds}"), n, times);
     }
 }
 
 // A history that fits, with half of the members back.
-fn checking(table: &mut Table, kind: Kind) {
+fn checking(table: &mut Table, kinds: &str, full: Set) {
     for n in SIZES {
-        let Scene { group, library, plain, .. } = scene(0, kind, n, 50, n / 2);
+        let Scene { group, library, plain, .. } = scene(0, full, n, 50, n / 2);
         let history = make::history_bytes(&group.truth);
         assert_eq!((library.check(&history), plain.check(&history)), (37, Ok(true)));
         let times = calls(|| _ = black_box(library.check(black_box(&history))), || _ = black_box(plain.check(black_box(&history))));
-        table.add(&format!("checking a history that fits, {}", word(kind)), n, times);
+        table.add(&format!("checking a history that fits, {kinds}"), n, times);
     }
 }

@@ -1,10 +1,13 @@
 // Data for tests and benchmarks: rosters, histories, records sound and damaged, awkward places and lengths.
 use crate::plain::Kind;
-use crate::plain::set::{Set, below, members};
+use crate::plain::set::{Set, below, has, members};
 use crate::random::Random;
 
 // The rosters of the benchmarks.
 pub const SIZES: [usize; 4] = [4, 16, 64, 128];
+
+// The groups of the benchmarks, by the places whose records are full: all, none, or every other one.
+pub const MIXES: [(&str, Set); 3] = [("full", Set::MAX), ("short", 0), ("both kinds", Set::MAX / 3)];
 
 pub fn ordered(order: &str, n: usize) -> Vec<u32> {
     let mut random = Random::new(n as u64);
@@ -23,28 +26,36 @@ pub fn ordered(order: &str, n: usize) -> Vec<u32> {
     list
 }
 
-// A group, and a history of it that its records come from.
+// A group, the places whose records are full, and a history of it that its records come from.
 pub struct Group {
-    pub kind: Kind,
+    pub full: Set,
     pub roster: Vec<u32>,
     pub truth: Vec<Set>,
 }
 
 impl Group {
-    pub fn new(random: &mut Random, kind: Kind, roster: Vec<u32>) -> Self {
-        let truth = history(random, kind, roster.len());
-        Group { kind, roster, truth }
+    pub fn any(random: &mut Random) -> Self {
+        let full = match random.below(6) {
+            0 => 0,
+            1 => Set::MAX,
+            2 => random.bits() & random.bits() & random.bits(),
+            3 => random.bits() | random.bits() | random.bits(),
+            _ => random.bits(),
+        };
+        let roster = roster(random);
+        let percent = random.pick(&[0, 3, 20, 50, 90, 100]);
+        let truth = history_of(random, full, roster.len(), percent);
+        Group { full, roster, truth }
     }
 
-    pub fn any(random: &mut Random) -> Self {
-        let kind = random.pick(&[Kind::Full, Kind::Short]);
-        let roster = roster(random);
-        Group::new(random, kind, roster)
+    // The kind of a place's true record.
+    pub fn kind(&self, place: usize) -> Kind {
+        if has(self.full, place) { Kind::Full } else { Kind::Short }
     }
 
     // The true record of a place.
     pub fn record(&self, place: usize) -> Layout {
-        Layout::new(self.kind, &self.roster, place, self.truth[place])
+        Layout::new(self.kind(place), &self.roster, place, self.truth[place])
     }
 }
 
@@ -104,21 +115,21 @@ pub fn seconds(random: &mut Random, firsts: &[u32], percent: usize) -> Vec<u32> 
     seconds
 }
 
-pub fn history(random: &mut Random, kind: Kind, n: usize) -> Vec<Set> {
-    let percent = random.pick(&[0, 3, 20, 50, 90, 100]);
-    history_of(random, kind, n, percent)
-}
-
-// A history: the places stop in some order, and each has heard some of those before it, and in the full kind their rows too.
-pub fn history_of(random: &mut Random, kind: Kind, n: usize, percent: usize) -> Vec<Set> {
+// A history: the places stop in some order, and each has heard some of those before it. The row of a full place has all that are before it.
+pub fn history_of(random: &mut Random, full: Set, n: usize, percent: usize) -> Vec<Set> {
     let mut order: Vec<usize> = (0..n).collect();
     random.shuffle(&mut order);
-    let mut rows = vec![0; n];
+    let (mut rows, mut before) = (vec![0; n], vec![0; n]);
     for i in 1..n {
+        let place = order[i];
         for &q in &order[..i] {
             if random.chance(percent) {
-                rows[order[i]] |= 1 << q | if kind == Kind::Full { rows[q] } else { 0 };
+                rows[place] |= 1 << q;
+                before[place] |= 1 << q | before[q];
             }
+        }
+        if has(full, place) {
+            rows[place] = before[place];
         }
     }
     rows
@@ -249,8 +260,9 @@ fn layout(random: &mut Random, group: &Group, seconds: &[u32]) -> Layout {
     if second != 0 && random.chance(6) {
         roster[random.below(n)] = second;
     }
+    let kind = if random.chance(85) { group.kind(place) } else { random.pick(&[Kind::Full, Kind::Short]) };
     let percent = random.pick(&[0, 50, 100]);
-    Layout::by(group.kind, &roster, place, mourned, |p| match seconds.get(p) {
+    Layout::by(kind, &roster, place, mourned, |p| match seconds.get(p) {
         Some(&second) if second != 0 && random.chance(percent) => second,
         _ => roster[p],
     })

@@ -1,7 +1,8 @@
 // The proved library: its functions as include/goatmonth.h declares them, and methods that lend slices.
 use std::fmt::{Debug, Formatter, Result};
 
-pub type Head = [u64; 4];
+pub type Head = [u64; 9];
+pub type DayHead = [u64; 4];
 pub type Serials = [u32; 128];
 pub type Rows = [u8; 2048];
 
@@ -10,7 +11,6 @@ pub type Rows = [u8; 2048];
 #[derive(Clone, PartialEq, Eq)]
 pub struct Recovery {
     pub head: Head,
-    pub mourned: [u64; 2],
     pub serials: Serials,
     pub seconds: Serials,
     pub rows: Rows,
@@ -20,7 +20,7 @@ pub struct Recovery {
 #[repr(C)]
 #[derive(Clone, Copy, PartialEq, Eq)]
 pub struct Day {
-    pub head: Head,
+    pub head: DayHead,
     pub serials: Serials,
     pub rows: Rows,
 }
@@ -54,7 +54,7 @@ fn show_rows(f: &mut Formatter, rows: &Rows) -> Result {
 
 impl Debug for Recovery {
     fn fmt(&self, f: &mut Formatter) -> Result {
-        write!(f, "head {:x?} mourned {:x?}", self.head, self.mourned)?;
+        write!(f, "head {:x?}", self.head)?;
         show_serials(f, "serial", &self.serials)?;
         show_serials(f, "second", &self.seconds)?;
         show_rows(f, &self.rows)
@@ -86,42 +86,16 @@ pub struct Found {
 }
 
 unsafe extern "C" {
-    fn gm_open(
-        kind: u8,
-        list: *const u32,
-        length: usize,
-        head: &mut Head,
-        mourned: &mut [u64; 2],
-        serials: &mut Serials,
-        seconds: &mut Serials,
-        rows: &mut Rows,
-    ) -> u8;
-    fn gm_offer(
-        head: &mut Head,
-        mourned: &mut [u64; 2],
-        serials: &Serials,
-        seconds: &Serials,
-        rows: &mut Rows,
-        bytes: *const u8,
-        length: usize,
-    ) -> u8;
-    fn gm_ask(head: &Head, mourned: &[u64; 2], rows: &Rows, place: usize) -> u8;
+    fn gm_open(list: *const u32, length: usize, head: &mut Head, serials: &mut Serials, seconds: &mut Serials, rows: &mut Rows) -> u8;
+    fn gm_offer(head: &mut Head, serials: &Serials, seconds: &Serials, rows: &mut Rows, bytes: *const u8, length: usize) -> u8;
+    fn gm_ask(head: &Head, rows: &Rows, place: usize) -> u8;
     fn gm_find(head: &Head, serials: &Serials, seconds: &Serials, serial: u32) -> Found;
     fn gm_give(head: &Head, serials: &Serials, seconds: &mut Serials, place: usize, serial: u32) -> u8;
-    fn gm_unmourned(head: &Head, mourned: &[u64; 2], out: &mut [u64; 2]);
-    fn gm_unmourned_absent(head: &Head, mourned: &[u64; 2], out: &mut [u64; 2]);
-    fn gm_unmourned_count(head: &Head, mourned: &[u64; 2]) -> usize;
-    fn gm_settled(head: &Head, mourned: &[u64; 2], rows: &Rows) -> u8;
-    fn gm_show(
-        head: &Head,
-        mourned: &[u64; 2],
-        rows: &Rows,
-        place: usize,
-        first: *mut u8,
-        first_length: usize,
-        second: *mut u8,
-        second_length: usize,
-    ) -> u8;
+    fn gm_unmourned(head: &Head, out: &mut [u64; 2]);
+    fn gm_unmourned_absent(head: &Head, out: &mut [u64; 2]);
+    fn gm_unmourned_count(head: &Head) -> usize;
+    fn gm_settled(head: &Head, rows: &Rows) -> u8;
+    fn gm_show(head: &Head, rows: &Rows, place: usize, first: *mut u8, first_length: usize, second: *mut u8, second_length: usize) -> u8;
     fn gm_check(head: &Head, rows: &Rows, history: *const u8, length: usize) -> u8;
     fn gm_write(head: &Head, serials: &Serials, rows: &Rows, place: usize, out: *mut u8, length: usize, at: usize) -> End;
     fn gm_read(
@@ -155,36 +129,36 @@ unsafe extern "C" {
         length: usize,
         at: usize,
     ) -> End;
-    fn gm_day_open(kind: u8, list: *const u32, length: usize, head: &mut Head, serials: &mut Serials, rows: &mut Rows) -> u8;
-    fn gm_day_event(head: &mut Head, serials: &Serials, rows: &mut Rows, kind: u8, place: usize, other: usize) -> u8;
-    fn gm_day_write(head: &Head, serials: &Serials, rows: &Rows, place: usize, out: *mut u8, length: usize, at: usize) -> End;
+    fn gm_day_open(kind: u8, list: *const u32, length: usize, head: &mut DayHead, serials: &mut Serials, rows: &mut Rows) -> u8;
+    fn gm_day_event(head: &mut DayHead, serials: &Serials, rows: &mut Rows, kind: u8, place: usize, other: usize) -> u8;
+    fn gm_day_write(head: &DayHead, serials: &Serials, rows: &Rows, place: usize, out: *mut u8, length: usize, at: usize) -> End;
     fn gm_day_play(day: Day, events: *const Event, length: usize) -> Played;
 }
 
 // Each call below lends slices and arrays that Rust knows to be valid and apart, which is all that the header asks.
 impl Recovery {
     pub fn zero() -> Self {
-        Recovery { head: [0; 4], mourned: [0; 2], serials: [0; 128], seconds: [0; 128], rows: [0; 2048] }
+        Recovery { head: [0; 9], serials: [0; 128], seconds: [0; 128], rows: [0; 2048] }
     }
 
-    pub fn open(&mut self, kind: u8, list: &[u32]) -> u8 {
-        let Recovery { head, mourned, serials, seconds, rows } = self;
-        unsafe { gm_open(kind, list.as_ptr(), list.len(), head, mourned, serials, seconds, rows) }
+    pub fn open(&mut self, list: &[u32]) -> u8 {
+        let Recovery { head, serials, seconds, rows } = self;
+        unsafe { gm_open(list.as_ptr(), list.len(), head, serials, seconds, rows) }
     }
 
     // Goes back to nobody returned: what an opening with the same list would write, but for the serials, first and second.
     pub fn reset(&mut self) {
-        (self.head[2], self.head[3], self.mourned) = (0, 0, [0; 2]);
-        self.rows[..16 * self.head[1] as usize].fill(0);
+        self.head[1..].fill(0);
+        self.rows[..16 * self.head[0] as usize].fill(0);
     }
 
     pub fn offer(&mut self, bytes: &[u8]) -> u8 {
-        let Recovery { head, mourned, serials, seconds, rows } = self;
-        unsafe { gm_offer(head, mourned, serials, seconds, rows, bytes.as_ptr(), bytes.len()) }
+        let Recovery { head, serials, seconds, rows } = self;
+        unsafe { gm_offer(head, serials, seconds, rows, bytes.as_ptr(), bytes.len()) }
     }
 
     pub fn ask(&self, place: usize) -> u8 {
-        unsafe { gm_ask(&self.head, &self.mourned, &self.rows, place) }
+        unsafe { gm_ask(&self.head, &self.rows, place) }
     }
 
     pub fn find(&self, serial: u32) -> Found {
@@ -196,24 +170,24 @@ impl Recovery {
     }
 
     pub fn unmourned(&self, out: &mut [u64; 2]) {
-        unsafe { gm_unmourned(&self.head, &self.mourned, out) }
+        unsafe { gm_unmourned(&self.head, out) }
     }
 
     pub fn unmourned_absent(&self, out: &mut [u64; 2]) {
-        unsafe { gm_unmourned_absent(&self.head, &self.mourned, out) }
+        unsafe { gm_unmourned_absent(&self.head, out) }
     }
 
     pub fn unmourned_count(&self) -> usize {
-        unsafe { gm_unmourned_count(&self.head, &self.mourned) }
+        unsafe { gm_unmourned_count(&self.head) }
     }
 
     pub fn settled(&self) -> u8 {
-        unsafe { gm_settled(&self.head, &self.mourned, &self.rows) }
+        unsafe { gm_settled(&self.head, &self.rows) }
     }
 
     pub fn show(&self, place: usize, first: &mut [u8], second: &mut [u8]) -> u8 {
         let (first, first_length, second, second_length) = (first.as_mut_ptr(), first.len(), second.as_mut_ptr(), second.len());
-        unsafe { gm_show(&self.head, &self.mourned, &self.rows, place, first, first_length, second, second_length) }
+        unsafe { gm_show(&self.head, &self.rows, place, first, first_length, second, second_length) }
     }
 
     pub fn check(&self, history: &[u8]) -> u8 {

@@ -2,7 +2,7 @@
 use crate::clock;
 use crate::make::{self, Group, SIZES};
 use crate::plain::boards::Boards;
-use crate::plain::{Kind, program, record};
+use crate::plain::{program, record};
 use crate::random::Random;
 use crate::timing::{Table, side_by_side};
 use std::collections::BTreeMap;
@@ -93,12 +93,12 @@ pub fn time() {
     let (program, own) = (program(), std::env::current_exe().expect("this program"));
     let file = std::env::temp_dir().join(format!("goatmonth-stream-{}", std::process::id()));
     let mut table = Table::default();
-    for kind in [Kind::Full, Kind::Short] {
+    for (kinds, full) in make::MIXES {
         for (order, sizes) in [("random order", &SIZES[..]), ("rising order", &[128]), ("one hash for all", &[128])] {
             for &n in sizes {
                 let mut random = Random::new(n as u64);
-                let truth = make::history_of(&mut random, kind, n, 400 / n);
-                let group = Group { kind, roster: make::ordered(order, n), truth };
+                let truth = make::history_of(&mut random, full, n, 400 / n);
+                let group = Group { full, roster: make::ordered(order, n), truth };
                 let records: Vec<Vec<u8>> = (0..n).map(|place| group.record(place).bytes()).collect();
                 let bytes: Vec<u8> = (0..100_000).flat_map(|_| records[random.below(n)].iter().copied()).collect();
                 std::fs::write(&file, &bytes).expect("room for the stream");
@@ -108,8 +108,7 @@ pub fn time() {
                 let library = || run_over(&file, &mut Command::new(&program));
                 let plain = || run_over(&file, Command::new(&own).arg("program"));
                 let times = side_by_side(11, library, plain);
-                let kind = if kind == Kind::Full { "full" } else { "short" };
-                table.add(&format!("the program, 100,000 records, {kind}, {order}"), n, times);
+                table.add(&format!("the program, 100,000 records, {kinds}, {order}"), n, times);
             }
         }
     }

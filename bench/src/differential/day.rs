@@ -153,7 +153,7 @@ fn finish(run: &mut Run, pair: &mut Pair) {
         pair.library.event(1, place, 0);
     }
     let mut recovery = Recovery::zero();
-    recovery.open(pair.plain.kind as u8, &pair.plain.roster);
+    recovery.open(&pair.plain.roster);
     let mut order: Vec<usize> = (0..n).collect();
     run.random.shuffle(&mut order);
     for place in order {

@@ -133,7 +133,7 @@ pub fn put_row(rows: &mut [u8], place: usize, row: u128) {
     rows[16 * place..][..16].copy_from_slice(&row.to_le_bytes());
 }
 
-// The parts that a recovery and a day both have, with random words and bytes throughout.
+// A day with random words and bytes throughout.
 pub fn noise(random: &mut Random) -> Day {
     let mut parts = Day::zero();
     parts.head.fill_with(|| random.next());
@@ -142,7 +142,7 @@ pub fn noise(random: &mut Random) -> Day {
     parts
 }
 
-// What they have to be after an opening.
+// What a day has to be after an opening.
 pub fn opened(kind: u8, list: &[u32]) -> Day {
     let mut parts = Day::zero();
     (parts.head[0], parts.head[1]) = (kind as u64, list.len() as u64);
@@ -150,7 +150,7 @@ pub fn opened(kind: u8, list: &[u32]) -> Day {
     parts
 }
 
-// Parts that no call has made: words that count as others, and bits off the roster. The first n serials stay those of a group, but for
+// A day that no call has made: words that count as others, and bits off the roster. The first n serials stay those of a group, but for
 // a zero or a repeat now and then.
 pub fn garbled(random: &mut Random, kind: u8, list: &[u32]) -> Day {
     let mut parts = noise(random);

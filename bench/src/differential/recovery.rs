@@ -1,7 +1,6 @@
 // Lists of calls on a recovery.
-use super::{Run, garbled, list_length, noise, opened, put_row, row_of, set_of, words};
+use super::{Run, garbled, list_length, noise, put_row, row_of, set_of, words};
 use crate::make::{self, Group};
-use crate::plain::Kind;
 use crate::plain::boards::Which;
 use crate::plain::recovery::{Answer, Offer, Recovery, Showing};
 use crate::plain::set::{Set, below, members};
@@ -17,18 +16,18 @@ struct Pair {
     opened: bool,
 }
 
-// A recovery from the parts that a day has too, and its own.
-fn whole(parts: proved::Day, mourned: Set, seconds: proved::Serials) -> proved::Recovery {
-    proved::Recovery { head: parts.head, mourned: words(mourned), serials: parts.serials, seconds, rows: parts.rows }
+// What a recovery has to be after an opening.
+fn just_opened(list: &[u32]) -> proved::Recovery {
+    let mut recovery = proved::Recovery::zero();
+    recovery.head[0] = list.len() as u64;
+    recovery.serials[..list.len()].copy_from_slice(list);
+    recovery
 }
 
 fn all_noise(run: &mut Run) -> proved::Recovery {
     let seconds = [0; 128].map(|_: u32| run.random.next() as u32);
-    whole(noise(&mut run.random), run.random.bits(), seconds)
-}
-
-fn just_opened(kind: u8, list: &[u32]) -> proved::Recovery {
-    whole(opened(kind, list), 0, [0; 128])
+    let proved::Day { serials, rows, .. } = noise(&mut run.random);
+    proved::Recovery { head: [0; 9].map(|_: u64| run.random.next()), serials, seconds, rows }
 }
 
 pub fn list(run: &mut Run) {
@@ -61,48 +60,64 @@ pub fn list(run: &mut Run) {
 
 // An opening that is refused often.
 fn try_open(run: &mut Run) {
-    let (kind, list) = (make::kind(&mut run.random), make::list(&mut run.random));
+    let list = make::list(&mut run.random);
     let mut library = all_noise(run);
     let before = library.clone();
-    run.begin("open", &[kind as usize, list.len()], &[]);
-    let plain = Recovery::open(kind, &list);
-    let code = library.open(kind, &list);
+    run.begin("open", &[list.len()], &[]);
+    let plain = Recovery::open(&list);
+    let code = library.open(&list);
     run.answer(plain.as_ref().map_or_else(|refusal| *refusal, |_| 0) as u64, code as u64);
-    run.same("the recovery afterwards", &if plain.is_ok() { just_opened(kind, &list) } else { before }, &library);
+    run.same("the recovery afterwards", &if plain.is_ok() { just_opened(&list) } else { before }, &library);
 }
 
 fn open(run: &mut Run, group: Group) -> Pair {
     let mut library = all_noise(run);
-    run.begin("open", &[group.kind as usize, group.roster.len()], &[]);
-    let code = library.open(group.kind as u8, &group.roster);
+    run.begin("open", &[group.roster.len()], &[]);
+    let code = library.open(&group.roster);
     run.answer(0, code as u64);
-    let wanted = just_opened(group.kind as u8, &group.roster);
+    let wanted = just_opened(&group.roster);
     run.same("the recovery afterwards", &wanted, &library);
-    let plain = Recovery::open(group.kind as u8, &group.roster).expect("a roster");
+    let plain = Recovery::open(&group.roster).expect("a roster");
     Pair { library, wanted, plain, group, opened: true }
 }
 
-// A recovery that no call has made, and the plain one that it stands for: the rows of those that are back and the second serials, as
-// far as the roster goes, and whatever is kept as the mourned set.
+// A recovery that no call has made, and the plain one that it stands for: the rows of those that are back, the full ones and the second
+// serials, as far as the roster goes, and whatever is kept as the mourned and the earlier sets.
 fn unmade(run: &mut Run, group: Group) -> Pair {
-    let parts = garbled(&mut run.random, group.kind as u8, &group.roster);
+    let parts = garbled(&mut run.random, 1, &group.roster);
     let n = parts.head[1].min(128) as usize;
-    let mut plain = Recovery::new(if parts.head[0] == 2 { Kind::Short } else { Kind::Full }, &parts.serials[..n]);
-    plain.returned = set_of(&parts.head[2..]) & below(n);
+    let mut plain = Recovery::new(&parts.serials[..n]);
+    let returned = set_of(&parts.head[2..]);
+    let full = run.random.bits() & run.random.pick(&[0, Set::MAX, returned, !returned]);
+    (plain.returned, plain.full) = (returned & below(n), full & below(n));
     members(plain.returned).for_each(|p| plain.rows[p] = row_of(&parts.rows, p) & below(n));
     let mut seconds = [0; 128].map(|_: u32| run.random.next() as u32);
     let percent = run.random.pick(&[0, 30, 100]);
     seconds[..group.roster.len()].copy_from_slice(&make::seconds(&mut run.random, &group.roster, percent));
     plain.seconds.copy_from_slice(&seconds[..n]);
-    let (named, some) = (in_rows(&plain), run.random.bits() & run.random.bits());
-    plain.mourned = run.random.pick(&[named, named | some, named & some, some, 0]);
-    let library = whole(parts, plain.mourned, seconds);
+    plain.mourned = about(run, in_rows(&plain, plain.returned));
+    plain.earlier = about(run, in_rows(&plain, plain.returned & plain.full));
+    let head = head(parts.head[1], [returned, full, plain.mourned, plain.earlier]);
+    let library = proved::Recovery { head, serials: parts.serials, seconds, rows: parts.rows };
     Pair { wanted: library.clone(), library, plain, group, opened: false }
 }
 
-// All that stand in a row.
-fn in_rows(plain: &Recovery) -> Set {
-    plain.rows.iter().fold(0, |all, row| all | row)
+// The nine words: a count and four sets.
+fn head(count: u64, sets: [Set; 4]) -> proved::Head {
+    let mut head = [count; 9];
+    sets.iter().zip(head[1..].chunks_exact_mut(2)).for_each(|(&set, part)| part.copy_from_slice(&words(set)));
+    head
+}
+
+// A set, or one that has to do with it more or less.
+fn about(run: &mut Run, set: Set) -> Set {
+    let some = run.random.bits() & run.random.bits();
+    run.random.pick(&[set, set | some, set & some, some, 0])
+}
+
+// All that stand in the rows of these.
+fn in_rows(plain: &Recovery, places: Set) -> Set {
+    members(places).fold(0, |all, p| all | plain.rows[p])
 }
 
 fn offer(run: &mut Run, pair: &mut Pair) {
@@ -110,11 +125,12 @@ fn offer(run: &mut Run, pair: &mut Pair) {
     let seconds = if pair.opened { &pair.plain.seconds[..] } else { &pair.library.seconds[..] };
     let bytes = make::offer(&mut run.random, &pair.group, seconds);
     run.begin("offer", &[], &bytes);
-    let (back, kept) = (pair.plain.returned, pair.plain.mourned);
+    let (back, kept) = (pair.plain.returned, pair.plain.earlier);
     if !pair.opened {
-        // a record is judged by the rows, where the plain one may look at the mourned set first
-        pair.plain.mourned = in_rows(&pair.plain);
+        // a record is judged by the rows, where the plain one may look at the earlier set first
+        pair.plain.earlier = in_rows(&pair.plain, back & pair.plain.full);
     }
+    let full = pair.plain.full;
     let plain = match pair.plain.offer(&bytes) {
         Ok(Offer::Taken) => 0,
         Ok(Offer::Repeated) => 32,
@@ -124,11 +140,12 @@ fn offer(run: &mut Run, pair: &mut Pair) {
     run.answer(plain as u64, library as u64);
     let taken = pair.plain.returned & !back;
     if !pair.opened {
-        pair.plain.mourned = members(taken).fold(kept, |all, own| all | pair.plain.rows[own]);
+        let by_full = if bytes.first() == Some(&1) { taken } else { 0 };
+        pair.plain.earlier = kept | in_rows(&pair.plain, by_full);
     }
-    let returned = words(set_of(&pair.wanted.head[2..]) | taken);
-    pair.wanted.head[2..].copy_from_slice(&returned);
-    pair.wanted.mourned = words(pair.plain.mourned);
+    let [returned, marked] = [1, 3].map(|k| set_of(&pair.wanted.head[k..]));
+    let sets = [returned | taken, marked | pair.plain.full & !full, pair.plain.mourned, pair.plain.earlier];
+    pair.wanted.head = head(pair.wanted.head[0], sets);
     members(taken).for_each(|own| put_row(&mut pair.wanted.rows, own, pair.plain.rows[own]));
 }
 

@@ -1,5 +1,5 @@
-// The same product in plain Rust, written from document 01 and from [2] of document 02 alone: nothing here is shared with the proved
-// library.
+// The same product in plain Rust, written from document 01 and from [2] and [3] of document 02 alone: nothing here is shared with the
+// proved library.
 pub mod boards;
 pub mod day;
 pub mod program;

@@ -68,7 +68,7 @@ pub fn run(input: impl Read, output: impl Write) -> io::Result<()> {
                 break;
             }
         };
-        let recovery = recovery.get_or_insert_with(|| Recovery::new(record.kind, &roster));
+        let recovery = recovery.get_or_insert_with(|| Recovery::new(&roster));
         match recovery.judge(&record, &roster) {
             Ok(Offer::Taken) => writeln!(output, "record {number} taken")?,
             Ok(Offer::Repeated) => writeln!(output, "record {number} repeated")?,

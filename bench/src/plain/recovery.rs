@@ -6,13 +6,16 @@ use super::{Kind, Refusal, check_roster};
 
 #[derive(Clone, Debug)]
 pub struct Recovery {
-    pub kind: Kind,
     pub roster: Vec<u32>,
     // the second serial of each place, 0 where it has none
     pub seconds: Vec<u32>,
     pub returned: Set,
+    // those of them whose record is full
+    pub full: Set,
     // all that returned records name
     pub mourned: Set,
+    // all that are before a returned full place
+    pub earlier: Set,
     // the rows of those that are back, and empty ones elsewhere
     pub rows: Vec<Set>,
     // the roster of the record that is being offered
@@ -39,28 +42,28 @@ pub enum Showing {
 }
 
 impl Recovery {
-    pub fn new(kind: Kind, roster: &[u32]) -> Self {
+    pub fn new(roster: &[u32]) -> Self {
         let n = roster.len();
         Recovery {
-            kind,
             roster: roster.to_vec(),
             seconds: vec![0; n],
             returned: 0,
+            full: 0,
             mourned: 0,
+            earlier: 0,
             rows: vec![0; n],
             theirs: Vec::with_capacity(128),
         }
     }
 
-    pub fn open(kind: u8, list: &[u32]) -> Result<Self, Refusal> {
-        let kind = Kind::from_byte(kind)?;
+    pub fn open(list: &[u32]) -> Result<Self, Refusal> {
         check_roster(list)?;
-        Ok(Recovery::new(kind, list))
+        Ok(Recovery::new(list))
     }
 
     // Goes back to nobody returned, keeps the second serials, and allocates nothing.
     pub fn reset(&mut self) {
-        (self.returned, self.mourned) = (0, 0);
+        (self.returned, self.full, self.mourned, self.earlier) = (0, 0, 0, 0);
         self.rows.fill(0);
     }
 
@@ -73,32 +76,40 @@ impl Recovery {
 
     // A record that was read, with its roster.
     pub fn judge(&mut self, record: &Record, roster: &[u32]) -> Result<Offer, Refusal> {
-        let (own, mourned) = (record.own, record.mourned);
-        if record.kind != self.kind || roster != self.roster {
+        let &Record { kind, own, mourned, .. } = record;
+        if roster != self.roster {
             return Err(9);
         }
         if has(self.returned, own) {
-            return if self.rows[own] == mourned { Ok(Offer::Repeated) } else { Err(10) };
+            let same = kind == self.kind(own) && mourned == self.rows[own];
+            return if same { Ok(Offer::Repeated) } else { Err(10) };
         }
-        if !self.accepts(own, mourned) {
+        if !self.accepts(own, kind, mourned) {
             return Err(11);
         }
         self.returned |= 1 << own;
         self.mourned |= mourned;
         self.rows[own] = mourned;
+        if kind == Kind::Full {
+            self.full |= 1 << own;
+            self.earlier |= mourned;
+        }
         Ok(Offer::Taken)
     }
 
-    // Whether some history fits the records taken and this one too.
-    fn accepts(&self, own: usize, row: Set) -> bool {
-        match self.kind {
-            Kind::Short => !has(self.and_before(row), own),
-            Kind::Full => {
-                !has(row, own)
-                    && members(row & self.returned).all(|m| self.rows[m] & !row == 0)
-                    && (!has(self.mourned, own) || self.rows.iter().all(|&theirs| !has(theirs, own) || row & !theirs == 0))
-            }
-        }
+    // The kind of a returned place.
+    fn kind(&self, place: usize) -> Kind {
+        if has(self.full, place) { Kind::Full } else { Kind::Short }
+    }
+
+    // Whether some history fits the records taken and this one too: nobody is before itself, and the row of a returned full place holds all
+    // that are before it. Of those taken only the rows that have this place can lack someone now.
+    fn accepts(&self, own: usize, kind: Kind, row: Set) -> bool {
+        let before = self.and_before(row);
+        !has(before, own)
+            && (kind == Kind::Short || before == row)
+            && (!has(self.earlier, own)
+                || members(self.returned & self.full).all(|p| !has(self.rows[p], own) || before & !self.rows[p] == 0))
     }
 
     // A set, and all that is before one of it by returned records.
@@ -113,19 +124,21 @@ impl Recovery {
         seen
     }
 
-    fn blockers(&self, place: usize, mourned: Set) -> Set {
-        let others = below(self.roster.len()) & !self.returned & !(1 << place);
-        match self.kind {
-            Kind::Full => others & !mourned,
-            Kind::Short if others == 0 => 0,
-            Kind::Short => others & !self.and_before(self.rows[place]),
-        }
+    // Other absent places that are neither before this one nor before a returned full one.
+    fn blockers(&self, place: usize) -> Set {
+        let others = below(self.roster.len()) & !self.returned & !(1 << place) & !self.earlier;
+        // those before a returned full place are among the earlier ones
+        if others == 0 || has(self.returned & self.full, place) { others } else { others & !self.before(place) }
     }
 
-    fn answer(&self, place: usize, mourned: Set) -> Answer {
-        if has(mourned, place) {
+    fn before(&self, place: usize) -> Set {
+        self.and_before(self.rows[place])
+    }
+
+    fn answer(&self, place: usize) -> Answer {
+        if has(self.mourned, place) {
             Answer::NotLast
-        } else if self.blockers(place, mourned) == 0 {
+        } else if self.blockers(place) == 0 {
             Answer::Last
         } else {
             Answer::Open
@@ -133,7 +146,7 @@ impl Recovery {
     }
 
     pub fn ask(&self, place: usize) -> Result<Answer, Refusal> {
-        if place >= self.roster.len() { Err(12) } else { Ok(self.answer(place, self.mourned)) }
+        if place >= self.roster.len() { Err(12) } else { Ok(self.answer(place)) }
     }
 
     pub fn boards(&self) -> Boards<'_> {
@@ -171,7 +184,7 @@ impl Recovery {
     }
 
     pub fn settled(&self) -> bool {
-        members(self.unmourned()).all(|place| self.answer(place, self.mourned) != Answer::Open)
+        members(self.unmourned()).all(|place| self.answer(place) != Answer::Open)
     }
 
     pub fn show(&self, place: usize, first: &mut [u8], second: &mut [u8]) -> Result<Showing, Refusal> {
@@ -186,12 +199,8 @@ impl Recovery {
             part.copy_from_slice(&row.to_le_bytes());
         }
         second[..16 * n].copy_from_slice(&first[..16 * n]);
-        let blocker = self.blockers(place, self.mourned).trailing_zeros() as usize;
-        let heard = match self.kind {
-            Kind::Full => self.rows[place],
-            Kind::Short => 0,
-        };
-        second[16 * blocker..][..16].copy_from_slice(&(heard | 1 << place).to_le_bytes());
+        let blocker = self.blockers(place).trailing_zeros() as usize;
+        second[16 * blocker..][..16].copy_from_slice(&(self.before(place) | 1 << place).to_le_bytes());
         Ok(Showing::Shown)
     }
 
@@ -201,7 +210,7 @@ impl Recovery {
         if (0..n).any(|p| rows.row(p) & !below(n) != 0) {
             return Err(15);
         }
-        Ok(members(self.returned).all(|p| rows.row(p) == self.rows[p]) && rows.is_history(self.kind))
+        Ok(members(self.returned).all(|p| rows.row(p) == self.rows[p]) && rows.fit(self.returned & self.full))
     }
 
     pub fn write(&self, place: usize, out: &mut [u8], at: usize) -> Result<usize, Refusal> {
@@ -211,7 +220,7 @@ impl Recovery {
         if !has(self.returned, place) {
             return Err(14);
         }
-        record::write(self.kind, place, &self.roster, self.rows[place], out, at)
+        record::write(self.kind(place), place, &self.roster, self.rows[place], out, at)
     }
 }
 
@@ -223,22 +232,16 @@ impl Lent<'_> {
         Set::from_le_bytes(self.0[place])
     }
 
-    // Whether they are a history, if none has a place off the roster.
-    fn is_history(&self, kind: Kind) -> bool {
-        let mut places = 0..self.0.len();
-        match kind {
-            // closed rows have no circle where nobody is in its own
-            Kind::Full => places.all(|p| !has(self.row(p), p) && self.is_closed(self.row(p))),
-            Kind::Short => {
-                let mut seen = 0;
-                places.all(|p| has(seen, p) || self.no_circle(p, &mut seen, 0))
-            }
-        }
+    // Whether they are a history in which the row of each of these holds all that are before it, if no row has a place off the roster.
+    fn fit(&self, full: Set) -> bool {
+        let mut seen = 0;
+        (0..self.0.len()).all(|p| has(seen, p) || self.no_circle(p, &mut seen, 0))
+            && members(full).all(|p| self.is_closed(self.row(p), full))
     }
 
-    // Whether a row holds the rows of its members. What stands in the row of a member needs no look: that row is looked at too, so its
+    // Whether a row holds the rows of its members. What stands in the row of a full member needs no look: that row is looked at too, so its
     // own members' rows lie in it, or the history is refused for it.
-    fn is_closed(&self, row: Set) -> bool {
+    fn is_closed(&self, row: Set, full: Set) -> bool {
         let mut left = row;
         while left != 0 {
             let member = left.trailing_zeros() as usize;
@@ -246,7 +249,10 @@ impl Lent<'_> {
             if theirs & !row != 0 {
                 return false;
             }
-            left &= !(theirs | 1 << member);
+            left &= !(1 << member);
+            if has(full, member) {
+                left &= !theirs;
+            }
         }
         true
     }

@@ -17,8 +17,8 @@ fn bytes(kind: Kind, own: u32, roster: &[u32], mourned: &[u32]) -> Vec<u8> {
 }
 
 // A recovery of 1, 2, .. n whose first places are given these second serials.
-fn swapped(kind: Kind, n: u32, seconds: &[u32]) -> Recovery {
-    let mut r = Recovery::open(kind as u8, &(1..=n).collect::<Vec<_>>()).expect("a roster");
+fn swapped(n: u32, seconds: &[u32]) -> Recovery {
+    let mut r = Recovery::open(&(1..=n).collect::<Vec<_>>()).expect("a roster");
     for (place, &serial) in seconds.iter().enumerate() {
         assert_eq!(r.give(place, serial), Ok(()));
     }
@@ -27,7 +27,7 @@ fn swapped(kind: Kind, n: u32, seconds: &[u32]) -> Recovery {
 
 // One recovery of 101, 102, 103, and what it answers one after the other: 12, then 4, then 16.
 pub fn given() -> u64 {
-    let mut r = open(Short, 3);
+    let mut r = open(3);
     let record = bytes(Short, 101, &[101, 102, 103], &[102]);
     assert_eq!(r.offer(&record), Ok(Taken));
     let kept = (r.roster.clone(), r.returned, r.mourned, r.rows.clone());
@@ -62,12 +62,12 @@ pub fn given() -> u64 {
 
 // Finding says the place and which of its two serials it was; 128 second serials share their low bits.
 pub fn found() -> u64 {
-    let mut r = open(Full, 2);
+    let mut r = open(2);
     assert_eq!([101, 102, 201, 0].map(|x| r.find(x)), [Some((0, First)), Some((1, First)), None, None]);
     assert_eq!(r.give(1, 201), Ok(()));
     assert_eq!([101, 102, 201, 202, 0].map(|x| r.find(x)), [Some((0, First)), Some((1, First)), Some((1, Second)), None, None]);
     let firsts: Vec<u32> = (1..=128).map(|k| k * 65_536).collect();
-    let mut r = Recovery::open(2, &firsts).unwrap();
+    let mut r = Recovery::open(&firsts).unwrap();
     for (place, &first) in firsts.iter().enumerate().rev() {
         // known are all first serials, and the second one given last
         let known = [firsts[0], firsts[127], firsts.get(place + 1).map_or(first, |next| next + 7)];
@@ -162,9 +162,9 @@ pub fn read() -> u64 {
 // Records offered one after the other to a group of 1, 2 and 3: own serial, roster, mourned serials, and the answer.
 type Step<'a> = (u32, &'a [u32], &'a [u32], Result<Offer, Refusal>);
 
-fn offers(r: &mut Recovery, steps: &[Step]) -> u64 {
+fn offers(r: &mut Recovery, kind: Kind, steps: &[Step]) -> u64 {
     for (own, roster, mourned, wanted) in steps {
-        assert_eq!(r.offer(&bytes(r.kind, *own, roster, mourned)), *wanted, "{own} of {roster:?} mourns {mourned:?}");
+        assert_eq!(r.offer(&bytes(kind, *own, roster, mourned)), *wanted, "{own} of {roster:?} mourns {mourned:?}");
     }
     steps.len() as u64
 }
@@ -174,23 +174,24 @@ pub fn offered() -> u64 {
     let mut checks = 0;
     for kind in [Full, Short] {
         // another roster is another group, also where second serials stand in it: such a record is read as it stands
-        let mut r = swapped(kind, 2, &[8, 9]);
-        checks += offers(&mut r, &[(1, &[1, 8], &[1, 8], Err(9)), (2, &[8, 2], &[], Err(9)), (8, &[8, 9], &[], Err(9))]);
-        checks += offers(&mut r, &[(1, &[1, 2], &[1, 8], Err(7)), (8, &[1, 2], &[7], Err(6)), (8, &[1, 3], &[9], Err(6))]);
+        let mut r = swapped(2, &[8, 9]);
+        checks += offers(&mut r, kind, &[(1, &[1, 8], &[1, 8], Err(9)), (2, &[8, 2], &[], Err(9)), (8, &[8, 9], &[], Err(9))]);
+        checks += offers(&mut r, kind, &[(1, &[1, 2], &[1, 8], Err(7)), (8, &[1, 2], &[7], Err(6)), (8, &[1, 3], &[9], Err(6))]);
         assert_eq!((r.returned, r.mourned), (0, 0));
         // repeated and 10 go by places
-        let mut r = swapped(kind, 3, &[7, 8, 9]);
-        checks += offers(&mut r, &[(7, all, &[8, 3], Ok(Taken)), (1, all, &[2, 9], Ok(Repeated)), (7, all, &[2, 3], Ok(Repeated))]);
-        checks += offers(&mut r, &[(1, all, &[9], Err(10)), (7, all, &[8], Err(10)), (7, all, &[7], Err(10))]);
+        let mut r = swapped(3, &[7, 8, 9]);
+        checks += offers(&mut r, kind, &[(7, all, &[8, 3], Ok(Taken)), (1, all, &[2, 9], Ok(Repeated)), (7, all, &[2, 3], Ok(Repeated))]);
+        checks += offers(&mut r, kind, &[(1, all, &[9], Err(10)), (7, all, &[8], Err(10)), (7, all, &[7], Err(10))]);
         // one that mourns itself by its other serial, and a circle of two
-        checks += offers(&mut r, &[(8, all, &[2], Err(11)), (2, all, &[8], Err(11)), (8, all, &[1], Err(11)), (9, all, &[7], Err(11))]);
-        checks += offers(&mut r, &[(9, all, &[], Ok(Taken)), (2, all, &[], Ok(Taken))]);
+        checks +=
+            offers(&mut r, kind, &[(8, all, &[2], Err(11)), (2, all, &[8], Err(11)), (8, all, &[1], Err(11)), (9, all, &[7], Err(11))]);
+        checks += offers(&mut r, kind, &[(9, all, &[], Ok(Taken)), (2, all, &[], Ok(Taken))]);
         assert_eq!((r.returned, r.rows.clone(), r.seconds.clone()), (0b111, vec![0b110, 0, 0], vec![7, 8, 9]));
         // a record is judged by the second serials given before it, and what was taken stays
-        let mut r = swapped(kind, 3, &[]);
-        checks += offers(&mut r, &[(1, all, &[2], Ok(Taken)), (8, all, &[], Err(6)), (3, all, &[8], Err(6))]);
+        let mut r = swapped(3, &[]);
+        checks += offers(&mut r, kind, &[(1, all, &[2], Ok(Taken)), (8, all, &[], Err(6)), (3, all, &[8], Err(6))]);
         assert_eq!((r.give(1, 8), r.returned, r.rows.clone()), (Ok(()), 0b001, vec![0b010, 0, 0]));
-        checks += offers(&mut r, &[(1, all, &[8], Ok(Repeated)), (8, all, &[], Ok(Taken)), (3, all, &[8], Ok(Taken))]);
+        checks += offers(&mut r, kind, &[(1, all, &[8], Ok(Repeated)), (8, all, &[], Ok(Taken)), (3, all, &[8], Ok(Taken))]);
         // the writer uses first serials
         let mut out = vec![0; 23];
         assert_eq!((r.write(2, &mut out, 0), out), (Ok(23), bytes(kind, 3, all, &[2])));
@@ -206,7 +207,7 @@ pub fn meaning() -> u64 {
     for _ in 0..2_000 {
         let group = Group::any(&mut random);
         let n = group.roster.len();
-        let mut old = Recovery::new(group.kind, &group.roster);
+        let mut old = Recovery::new(&group.roster);
         let mut new = old.clone();
         for _ in 0..random.pick(&[1, n, 2 * n]) {
             let serial = make::board(&mut random, &new.roster, &new.seconds);
@@ -216,11 +217,12 @@ pub fn meaning() -> u64 {
             let place = random.below(n);
             let mourned = if random.chance(80) { group.truth[place] } else { 1 << random.below(n) };
             let either = |p: usize| if new.seconds[p] != 0 && random.chance(50) { new.seconds[p] } else { group.roster[p] };
-            let by_either = Layout::by(group.kind, &group.roster, place, mourned, either).bytes();
-            let by_first = Layout::new(group.kind, &group.roster, place, mourned).bytes();
+            let by_either = Layout::by(group.kind(place), &group.roster, place, mourned, either).bytes();
+            let by_first = Layout::new(group.kind(place), &group.roster, place, mourned).bytes();
             let answer = new.offer(&by_either);
             assert_eq!(answer, old.offer(&by_first));
-            assert_eq!((new.returned, new.mourned, &new.rows), (old.returned, old.mourned, &old.rows));
+            assert_eq!((new.returned, new.full, new.mourned, new.earlier), (old.returned, old.full, old.mourned, old.earlier));
+            assert_eq!(new.rows, old.rows);
             if answer.is_ok() {
                 let mut out = vec![0; by_first.len()];
                 assert_eq!((new.write(place, &mut out, 0), &out), (Ok(out.len()), &by_first));

@@ -10,8 +10,8 @@ fn set(controllers: &[usize]) -> Set {
 }
 
 // Offers the record of a controller, counted from 1, and gives 0 for taken.
-fn offer(r: &mut Recovery, own: usize, mourned: &[usize]) -> u8 {
-    let bytes = Layout::new(r.kind, &r.roster, own - 1, set(mourned)).bytes();
+fn offer(r: &mut Recovery, kind: Kind, own: usize, mourned: &[usize]) -> u8 {
+    let bytes = Layout::new(kind, &r.roster, own - 1, set(mourned)).bytes();
     match r.offer(&bytes) {
         Ok(Taken) => 0,
         Ok(Repeated) => 32,
@@ -47,9 +47,9 @@ pub fn table() -> u64 {
         ("all mourned", Full, 2, &[(1, &[1, 2], 11)], &[], None),
     ];
     for (name, kind, n, records, answers, settled) in table {
-        let mut r = open(*kind, *n);
+        let mut r = open(*n);
         for (own, mourned, wanted) in *records {
-            assert_eq!(offer(&mut r, *own, mourned), *wanted, "{name}: {own} mourns {mourned:?}");
+            assert_eq!(offer(&mut r, *kind, *own, mourned), *wanted, "{name}: {own} mourns {mourned:?}");
         }
         for &(controller, wanted) in *answers {
             assert_eq!(r.ask(controller - 1), Ok(wanted), "{name}: {controller}");
@@ -59,8 +59,37 @@ pub fn table() -> u64 {
     table.len() as u64
 }
 
+// Records of both kinds in one group: how many, the records with their kinds and answers, then the answers for controllers and the whole.
+type Mixed<'a> = (&'a str, u32, &'a [(Kind, usize, &'a [usize], u8)], &'a [(usize, Answer)], bool);
+
+pub fn both_kinds() -> u64 {
+    let table: &[Mixed] = &[
+        ("another kind", 2, &[(Short, 1, &[2], 0), (Full, 1, &[2], 10), (Short, 1, &[2], 32)], &[(1, Last), (2, NotLast)], true),
+        ("another kind", 2, &[(Full, 1, &[2], 0), (Short, 1, &[2], 10), (Full, 1, &[2], 32)], &[(1, Last), (2, NotLast)], true),
+        ("full over short", 3, &[(Short, 2, &[3], 0), (Full, 1, &[2], 11), (Full, 1, &[2, 3], 0)], &[(1, Last), (3, NotLast)], true),
+        ("short under full", 3, &[(Full, 1, &[2], 0), (Short, 2, &[3], 11), (Short, 2, &[], 0)], &[(1, Open), (2, NotLast)], false),
+        ("short over full", 3, &[(Full, 2, &[3], 0), (Short, 1, &[2], 0)], &[(1, Last), (3, NotLast)], true),
+        ("two short ones between", 4, &[(Short, 3, &[4], 0), (Short, 2, &[3], 0), (Full, 1, &[2, 3], 11)], &[(1, Open), (2, Open)], false),
+        ("a full one names it already", 3, &[(Full, 1, &[2, 3], 0), (Short, 2, &[3], 0), (Full, 3, &[], 0)], &[(1, Last)], true),
+        ("a circle", 3, &[(Full, 1, &[2], 0), (Short, 2, &[1], 11), (Short, 3, &[1], 0), (Full, 2, &[3], 11)], &[(1, NotLast)], true),
+        ("absent and before a full one", 4, &[(Full, 1, &[2], 0), (Short, 3, &[4], 0)], &[(1, Open), (3, Last)], false),
+        ("a full one before a short one", 3, &[(Short, 1, &[2], 0), (Full, 2, &[3], 0)], &[(1, Last), (2, NotLast)], true),
+    ];
+    for (name, n, records, answers, settled) in table {
+        let mut r = open(*n);
+        for &(kind, own, mourned, wanted) in *records {
+            assert_eq!(offer(&mut r, kind, own, mourned), wanted, "{name}: {own}, {kind:?}, mourns {mourned:?}");
+        }
+        for &(controller, wanted) in *answers {
+            assert_eq!(r.ask(controller - 1), Ok(wanted), "{name}: {controller}");
+        }
+        assert_eq!(r.settled(), *settled, "{name}");
+    }
+    table.len() as u64
+}
+
 pub fn borders() -> u64 {
-    let mut r = open(Short, 2);
+    let mut r = open(2);
     let (mut a, mut b) = ([9; 35], [8; 35]);
     for place in [2, 128, usize::MAX] {
         assert_eq!((r.ask(place), r.show(place, &mut a, &mut b), r.write(place, &mut a, 0)), (Err(12), Err(12), Err(12)));
@@ -77,7 +106,7 @@ pub fn borders() -> u64 {
     assert_eq!((r.check(&b), r.check(&b[..31])), (Err(15), Err(13)));
     b[0] = 2;
     assert_eq!(r.check(&b), Ok(false));
-    assert_eq!(offer(&mut r, 1, &[2]), 0);
+    assert_eq!(offer(&mut r, Short, 1, &[2]), 0);
     assert_eq!((r.show(0, &mut [], &mut []), r.show(1, &mut [], &mut [])), (Ok(Showing::Decided), Ok(Showing::Decided)));
     assert_eq!((r.write(1, &mut [], 0), r.write(0, &mut [0; 19], 1), r.write(0, &mut [0; 19], usize::MAX)), (Err(14), Err(13), Err(13)));
     assert_eq!(r.write(0, &mut [0; 19], 0), Ok(19));

@@ -1,87 +1,92 @@
 // The answers against all histories of small rosters, and against days that end.
 use super::open;
-use crate::make::{self, Group, Layout};
+use crate::make::{self, Layout};
 use crate::plain::Kind::{self, Full, Short};
 use crate::plain::day::{Day, Event};
 use crate::plain::recovery::{Answer::*, Offer::*, Recovery, Showing};
 use crate::plain::set::{Set, has, members};
 use crate::random::Random;
 
-// Whether rows are a history, by the definition: before is closed in rounds.
-fn is_history(kind: Kind, rows: &[Set]) -> bool {
+// All that are before each place, by the definition: closed in rounds.
+fn before(rows: &[Set]) -> Vec<Set> {
     let mut before = rows.to_vec();
     for _ in rows {
         before = before.iter().map(|&row| members(row).fold(row, |all, m| all | before[m])).collect();
     }
-    let acyclic = before.iter().enumerate().all(|(p, &row)| !has(row, p));
-    let closed = rows.iter().all(|&row| members(row).all(|m| rows[m] & !row == 0));
-    acyclic && (kind == Short || closed)
+    before
 }
+
+// Rows, and all that are before each place by them.
+struct Rows {
+    rows: Vec<Set>,
+    before: Vec<Set>,
+}
+
+impl Rows {
+    fn is_history(&self) -> bool {
+        self.before.iter().enumerate().all(|(p, &before)| !has(before, p))
+    }
+
+    // Whether this can be the row of a place that has such a record.
+    fn has_record(&self, p: usize, (kind, row): Record) -> bool {
+        self.rows[p] == row && (kind == Short || self.before[p] & !row == 0)
+    }
+
+    fn fits(&self, pile: &[Option<Record>]) -> bool {
+        self.is_history() && pile.iter().enumerate().all(|(p, record)| record.is_none_or(|record| self.has_record(p, record)))
+    }
+}
+
+// A record of some place: its kind and its mourned set.
+type Record = (Kind, Set);
 
 // The rows that a number spells, n bits each.
 fn rows_of(n: usize, number: usize) -> Vec<Set> {
     (0..n).map(|p| (number >> (p * n)) as Set & ((1 << n) - 1)).collect()
 }
 
-// A pile: for each place its record's set, or none. All piles of n places that some history fits are tried in every call.
+// A pile: for each place its record, or none. All piles of n places that some history fits are tried in every call.
 pub fn enumeration() -> u64 {
     let mut checks = 0;
-    for kind in [Full, Short] {
-        for n in 1..=3 {
-            let all: Vec<(Vec<Set>, bool)> =
-                (0..1 << (n * n)).map(|x| rows_of(n, x)).map(|rows| (rows.clone(), is_history(kind, &rows))).collect();
-            let choices = (1usize << n) + 1;
-            for number in 0..choices.pow(n as u32) {
-                let pile: Vec<Option<Set>> =
-                    (0..n as u32).map(|p| (number / choices.pow(p) % choices).checked_sub(1).map(|row| row as Set)).collect();
-                checks += pile_checks(kind, &pile, &all);
-            }
+    for n in 1..=3 {
+        let all: Vec<Rows> = (0..1 << (n * n)).map(|x| rows_of(n, x)).map(|rows| Rows { before: before(&rows), rows }).collect();
+        let choices = 2 * (1usize << n) + 1;
+        let choice = |number: usize| number.checked_sub(1).map(|k| (if k % 2 == 0 { Full } else { Short }, (k / 2) as Set));
+        for number in 0..choices.pow(n as u32) {
+            let pile: Vec<Option<Record>> = (0..n as u32).map(|p| choice(number / choices.pow(p) % choices)).collect();
+            checks += pile_checks(&pile, &all);
         }
     }
     checks
 }
 
-fn fits(pile: &[Option<Set>], rows: &[Set]) -> bool {
-    pile.iter().zip(rows).all(|(record, row)| record.is_none_or(|record| record == *row))
-}
-
-fn pile_checks(kind: Kind, pile: &[Option<Set>], all: &[(Vec<Set>, bool)]) -> u64 {
+fn pile_checks(pile: &[Option<Record>], all: &[Rows]) -> u64 {
     let n = pile.len();
-    let fitting: Vec<&Vec<Set>> = all.iter().filter(|(rows, history)| *history && fits(pile, rows)).map(|(rows, _)| rows).collect();
+    let fitting: Vec<&Rows> = all.iter().filter(|rows| rows.fits(pile)).collect();
     if fitting.is_empty() {
         return 0;
     }
-    let mut r = open(kind, n as u32);
-    let record = |p: usize, row: Set| Layout::new(kind, &(101..101 + n as u32).collect::<Vec<_>>(), p, row).bytes();
-    for (p, row) in pile.iter().enumerate() {
-        if let Some(row) = row {
-            assert_eq!(r.offer(&record(p, *row)), Ok(Taken));
+    let mut r = open(n as u32);
+    let bytes = |p: usize, (kind, row): Record| Layout::new(kind, &(101..101 + n as u32).collect::<Vec<_>>(), p, row).bytes();
+    for (p, record) in pile.iter().enumerate() {
+        if let Some(record) = record {
+            assert_eq!(r.offer(&bytes(p, *record)), Ok(Taken));
         }
     }
     for p in 0..n {
-        for row in 0..1 << n {
+        for record in (0..1 << n).flat_map(|row| [(Full, row), (Short, row)]) {
             let wanted = match pile[p] {
-                Some(own) => {
-                    if own == row {
-                        Ok(Repeated)
-                    } else {
-                        Err(10)
-                    }
-                }
-                None => {
-                    if fitting.iter().any(|rows| rows[p] == row) {
-                        Ok(Taken)
-                    } else {
-                        Err(11)
-                    }
-                }
+                Some(own) if own == record => Ok(Repeated),
+                Some(_) => Err(10),
+                None if fitting.iter().any(|rows| rows.has_record(p, record)) => Ok(Taken),
+                None => Err(11),
             };
-            assert_eq!(r.clone().offer(&record(p, row)), wanted, "{kind:?} {pile:?} {p} {row}");
+            assert_eq!(r.clone().offer(&bytes(p, record)), wanted, "{pile:?} {p} {record:?}");
         }
     }
     let last_in = |rows: &[Set], p: usize| rows.iter().all(|&row| !has(row, p));
     for p in 0..n {
-        let count = fitting.iter().filter(|rows| last_in(rows, p)).count();
+        let count = fitting.iter().filter(|rows| last_in(&rows.rows, p)).count();
         let wanted = if count == fitting.len() {
             Last
         } else if count == 0 {
@@ -89,17 +94,18 @@ fn pile_checks(kind: Kind, pile: &[Option<Set>], all: &[(Vec<Set>, bool)]) -> u6
         } else {
             Open
         };
-        assert_eq!(r.ask(p), Ok(wanted), "{kind:?} {pile:?} {p}");
+        assert_eq!(r.ask(p), Ok(wanted), "{pile:?} {p}");
         let (mut a, mut b) = (vec![1; 16 * n], vec![1; 16 * n]);
         assert_eq!(r.show(p, &mut a, &mut b), Ok(if wanted == Open { Showing::Shown } else { Showing::Decided }));
         if wanted == Open {
             let rows = |bytes: &[u8]| bytes.chunks(16).map(|x| Set::from_le_bytes(x.try_into().unwrap())).collect::<Vec<_>>();
             let (a, b) = (rows(&a), rows(&b));
-            assert!(fitting.contains(&&a) && last_in(&a, p) && fitting.contains(&&b) && !last_in(&b, p), "{kind:?} {pile:?} {p}");
+            let fit = |history: &Vec<Set>| fitting.iter().any(|rows| rows.rows == *history);
+            assert!(fit(&a) && last_in(&a, p) && fit(&b) && !last_in(&b, p), "{pile:?} {p}");
         }
     }
-    for (rows, history) in all {
-        assert_eq!(r.check(&make::history_bytes(rows)), Ok(*history && fits(pile, rows)), "{kind:?} {pile:?} {rows:?}");
+    for rows in all {
+        assert_eq!(r.check(&make::history_bytes(&rows.rows)), Ok(rows.fits(pile)), "{pile:?} {:?}", rows.rows);
     }
     let unmourned = (0..n).filter(|&p| r.ask(p) != Ok(NotLast)).fold(0, |set, p| set | 1 << p);
     assert_eq!(
@@ -107,7 +113,7 @@ fn pile_checks(kind: Kind, pile: &[Option<Set>], all: &[(Vec<Set>, bool)]) -> u6
         (unmourned, unmourned & !r.returned, unmourned.count_ones() as usize)
     );
     assert_eq!(r.settled(), (0..n).all(|p| r.ask(p) != Ok(Open)));
-    (n + n * (1 << n) + all.len() + 4) as u64
+    (n + 2 * n * (1 << n) + all.len() + 4) as u64
 }
 
 // Days that end: every record is taken in any order, and what is answered on the way is true of the day.
@@ -131,15 +137,15 @@ pub fn days() -> u64 {
         assert_eq!(day.event(event), Err(wanted), "{event:?}");
     }
     for _ in 0..3_000 {
-        let group = Group::any(&mut random);
-        let n = group.roster.len();
-        let mut day = Day::open(group.kind as u8, &group.roster).unwrap();
+        let roster = make::roster(&mut random);
+        let n = roster.len();
+        let mut day = Day::open(random.pick(&[1, 2]), &roster).unwrap();
         let percent = random.pick(&[5, 30, 80]);
         while day.stopped.count_ones() < n as u32 {
             let kind = if random.chance(percent) { 1 } else { 2 };
             let _ = day.event(Event { kind, place: random.below(n), other: random.below(n) });
         }
-        let mut r = Recovery::open(group.kind as u8, &group.roster).unwrap();
+        let mut r = Recovery::open(&roster).unwrap();
         let mut order: Vec<usize> = (0..n).collect();
         random.shuffle(&mut order);
         for p in order {

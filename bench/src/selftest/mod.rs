@@ -1,10 +1,9 @@
-// The plain implementation by itself: document 01's listing and cases, board swaps, and all histories of small rosters.
+// The plain implementation by itself: document 01's listing and cases, both kinds in one group, board swaps, and all histories of small rosters.
 mod boards;
 mod cases;
 mod histories;
 mod records;
 
-use crate::plain::Kind;
 use crate::plain::program;
 use crate::plain::recovery::Recovery;
 
@@ -13,6 +12,7 @@ pub fn run() {
         ("the listing", listing as fn() -> u64),
         ("streams", streams),
         ("P1 to P12 and others", cases::table),
+        ("both kinds in one group", cases::both_kinds),
         ("buffers and places", cases::borders),
         ("faults of a record", records::faults),
         ("lists of serials", records::lists),
@@ -31,8 +31,8 @@ pub fn run() {
 }
 
 // A recovery of so many members, with serials from 101 on.
-fn open(kind: Kind, n: u32) -> Recovery {
-    Recovery::open(kind as u8, &(101..101 + n).collect::<Vec<_>>()).expect("a roster")
+fn open(n: u32) -> Recovery {
+    Recovery::open(&(101..101 + n).collect::<Vec<_>>()).expect("a roster")
 }
 
 // The bytes of a text in hexadecimal.

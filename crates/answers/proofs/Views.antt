@@ -1,5 +1,5 @@
 -- The accepted records of a table, by their members: what is cut, and what is recorded. Assumes nothing.
-use mathlib.Core.Path.{_≡_, refl, sym, ap, _∙_, subst, fun-ext}
+use mathlib.Core.Path.{_≡_, refl, sym, ap, _∙_, fun-ext}
 use mathlib.Core.Bool.{Bool, true, false, cond, _&&_, and-true, and-false}
 use mathlib.Core.List.{List}
 use Prim.Native.Nat.{ℕ, _<_, _≤_}
@@ -11,9 +11,10 @@ use Rattle.places.specs.PlaceSets.{has, kept}
 use Rattle.places.specs.declared.PlaceSet.{PlaceSet}
 use Rattle.places.proofs.Booleans.{and-intro, and-left, and-right}
 use Rattle.rows.specs.Rows.{rowsOf}
+use Rattle.histories.specs.declared.Kind.the-variants.{Short}
 use Rattle.histories.specs.Histories.{Accepted}
 use Rattle.histories.specs.Rule.{recorded}
-use Rattle.answers.specs.Views.{size, acceptedIn}
+use Rattle.answers.specs.Views.{size, acceptedIn, recordedIn}
 
 -- ---- the roster
 
@@ -56,30 +57,40 @@ roster-is count = fun-ext (λ k. go k (leb count 128) refl)
 
 -- ---- what is accepted
 
--- the records that a loop sees: who is back, and the rows as far as `all` goes
+-- the records that a loop sees: who is back, and the rows as far as `all` goes. The kinds do not matter to it
 abbrev pub cut : PlaceSet → PlaceSet → List ℕ → Accepted
-cut all back w = record { returned = has back; row = λ p. intersection (has all) (rowsOf w p) }
+cut all back w = record { returned = has back; kind = λ p. Short; row = λ p. intersection (has all) (rowsOf w p) }
 
 pub cut-is : (count : ℕ) (w : List ℕ) (all s back : PlaceSet) → has all ≡ below (size count) → has back ≡ intersection (has all) (has s)
-    → cut all back w ≡ acceptedIn count (has s) w
-unfolding acceptedIn
+    → recorded (cut all back w) ≡ recordedIn count (has s) w
+unfolding recorded recordedIn
 cut-is count w all s back a e =
-    λ i. record { returned = (e ∙ ap (λ (S : Places). intersection S (has s)) a) i; row = λ p. intersection (a i) (rowsOf w p) }
+    λ i p q. (e ∙ ap (λ (S : Places). intersection S (has s)) a) i p && intersection (a i) (rowsOf w p) q
 
 -- accepted records are of a roster of length n: no place off it is back, none stands in a row
 pub record On (n : ℕ) (A : Accepted) : Type 0 where
   pub back-on : (p : ℕ) → A .returned p ≡ true → p < n
   pub row-on : (p q : ℕ) → A .row p q ≡ true → q < n
 
-pub accepted-on : (count : ℕ) (R : Places) (w : List ℕ) → On (size count) (acceptedIn count R w)
+pub accepted-on : (count : ℕ) (R F : Places) (w : List ℕ) → On (size count) (acceptedIn count R F w)
 unfolding acceptedIn
-accepted-on count R w = record {
+accepted-on count R F w = record {
   back-on = λ p e. ltb-true p (size count) (and-left (ltb p (size count)) (R p) e);
   row-on = λ p q e. ltb-true q (size count) (and-left (ltb q (size count)) (rowsOf w p q) e);
 }
 
+pub accepted-recorded : (count : ℕ) (R F : Places) (w : List ℕ) → recorded (acceptedIn count R F w) ≡ recordedIn count R w
+unfolding recorded recordedIn acceptedIn
+accepted-recorded count R F w = refl
+
 pub cut-on : (count : ℕ) (w : List ℕ) (all s back : PlaceSet) → has all ≡ below (size count) → has back ≡ intersection (has all) (has s) → On (size count) (cut all back w)
-cut-on count w all s back a e = subst (On (size count)) (sym (cut-is count w all s back a e)) (accepted-on count (has s) w)
+cut-on count w all s back a e = record {
+  back-on = λ p h. on p (and-left (has all p) (has s p) (sym (ap (λ (S : Places). S p) e) ∙ h));
+  row-on = λ p q h. on q (and-left (has all q) (rowsOf w p q) h);
+}
+  where
+    on : (p : ℕ) → has all p ≡ true → p < size count
+    on p h = ltb-true p (size count) (sym (ap (λ (S : Places). S p) a) ∙ h)
 
 -- a set as far as the roster goes: nothing else is in it, and on the roster it is that set
 pub cut-below : (n : ℕ) (all s N : PlaceSet) → has all ≡ below n → has N ≡ intersection (has all) (has s) → (k : ℕ) → has N k ≡ true → k < n

@@ -13,11 +13,11 @@ use Rattle.places.proofs.Booleans.{clash, is-false, both-ways, and-intro, and-l
 use Rattle.places.proofs.Tests.{any-elim, any-intro}
 use Rattle.places.proofs.Laws.{has-below}
 use Rattle.rows.specs.Rows.{rowsOf}
-use Rattle.histories.specs.Histories.{Row, Before, heard, through, Accepted}
-use Rattle.histories.specs.Rule.{recorded, before}
+use Rattle.histories.specs.Histories.{Row, History, Before, heard, through, Accepted}
+use Rattle.histories.specs.Rule.{recorded, reach}
 use Rattle.histories.proofs.Closure.{before-trans, reach-sound, reach-complete}
-use Rattle.answers.specs.Views.{size, acceptedIn, reachFrom}
-use Rattle.answers.proofs.Views.{On, cut, cut-is, cut-on, recorded-back, recorded-absent, recorded-parts, recorded-intro}
+use Rattle.answers.specs.Views.{size, acceptedIn, recordedIn, reachFrom}
+use Rattle.answers.proofs.Views.{On, accepted-on, cut, cut-is, cut-on, recorded-back, recorded-absent, recorded-parts, recorded-intro}
 
 -- what holds at each turn of a walk towards the set T: `seen` holds nothing else, and the rows of all returned places that
 -- are not in `left`
@@ -61,7 +61,7 @@ walk-goes A T seen left t p good m row more rest er eu ew = record {
 
 -- what holds at each turn of the walk from S to all that is reached from it: besides, S is seen
 pub record Reaching (n : ℕ) (A : Accepted) (S seen left : PlaceSet) : Type 0 where
-  pub walk : Walk A (reachFrom n A (has S)) seen left
+  pub walk : Walk A (reachFrom n (recorded A) (has S)) seen left
   pub begun : (q : ℕ) → has S q ≡ true → has seen q ≡ true
 
 -- ---- what is before
@@ -70,12 +70,10 @@ module _ (n : ℕ) (A : Accepted) (on : On n A) where
   rows-on : (p q : ℕ) → recorded A p q ≡ true → p < n
   rows-on p q r = on .back-on p (recorded-parts A p q r .0)
 
-  before-sound : (p q : ℕ) → before n A p q ≡ true → Before (recorded A) q p
-  unfolding before
+  before-sound : (p q : ℕ) → reach n (recorded A) p q ≡ true → Before (recorded A) q p
   before-sound p q e = reach-sound n (recorded A) p q e
 
-  before-complete : (p q : ℕ) → Before (recorded A) q p → before n A p q ≡ true
-  unfolding before
+  before-complete : (p q : ℕ) → Before (recorded A) q p → reach n (recorded A) p q ≡ true
   before-complete p q b = reach-complete n (recorded A) rows-on b
 
   -- what is before something is before it by a row of the roster
@@ -84,31 +82,31 @@ module _ (n : ℕ) (A : Accepted) (on : On n A) where
   before-on (through e b) = before-on b
 
   module _ (S : Row) where
-    pub reach-here : (q : ℕ) → S q ≡ true → reachFrom n A S q ≡ true
+    pub reach-here : (q : ℕ) → S q ≡ true → reachFrom n (recorded A) S q ≡ true
     unfolding reachFrom
-    reach-here q e = or-left (any n (λ m. S m && before n A m q)) e
+    reach-here q e = or-left (any n (λ m. S m && reach n (recorded A) m q)) e
 
-    reach-before : (m q : ℕ) → S m ≡ true → Before (recorded A) q m → reachFrom n A S q ≡ true
+    reach-before : (m q : ℕ) → S m ≡ true → Before (recorded A) q m → reachFrom n (recorded A) S q ≡ true
     unfolding reachFrom
-    reach-before m q e b = or-right (S q) (any-intro n (λ m. S m && before n A m q) m (before-on b) (and-intro e (before-complete m q b)))
+    reach-before m q e b = or-right (S q) (any-intro n (λ m. S m && reach n (recorded A) m q) m (before-on b) (and-intro e (before-complete m q b)))
 
-    pub reach-elim : (q : ℕ) → reachFrom n A S q ≡ true → (S q ≡ true) ⊎ ((m : ℕ) × (S m ≡ true) × Before (recorded A) q m)
+    pub reach-elim : (q : ℕ) → reachFrom n (recorded A) S q ≡ true → (S q ≡ true) ⊎ ((m : ℕ) × (S m ≡ true) × Before (recorded A) q m)
     unfolding reachFrom
-    reach-elim q e = go (or-cases (S q) (any n (λ m. S m && before n A m q)) e)
+    reach-elim q e = go (or-cases (S q) (any n (λ m. S m && reach n (recorded A) m q)) e)
       where
-        go : (S q ≡ true) ⊎ (any n (λ m. S m && before n A m q) ≡ true) → (S q ≡ true) ⊎ ((m : ℕ) × (S m ≡ true) × Before (recorded A) q m)
+        go : (S q ≡ true) ⊎ (any n (λ m. S m && reach n (recorded A) m q) ≡ true) → (S q ≡ true) ⊎ ((m : ℕ) × (S m ≡ true) × Before (recorded A) q m)
         go (inl h) = inl h
         go (inr h) =
-            let r = any-elim n (λ m. S m && before n A m q) h in
-            inr (r .0, and-left (S (r .0)) (before n A (r .0) q) (r .2), before-sound (r .0) q (and-right (S (r .0)) (before n A (r .0) q) (r .2)))
+            let r = any-elim n (λ m. S m && reach n (recorded A) m q) h in
+            inr (r .0, and-left (S (r .0)) (reach n (recorded A) (r .0) q) (r .2), before-sound (r .0) q (and-right (S (r .0)) (reach n (recorded A) (r .0) q) (r .2)))
 
     -- what stands in the row of one that is reached is reached
-    pub reach-next : (p q : ℕ) → reachFrom n A S p ≡ true → recorded A p q ≡ true → reachFrom n A S q ≡ true
+    pub reach-next : (p q : ℕ) → reachFrom n (recorded A) S p ≡ true → recorded A p q ≡ true → reachFrom n (recorded A) S q ≡ true
     reach-next p q e r = ⊎-elim (λ h. reach-before p q h (heard r)) (λ h. reach-before (h .0) q (h .1) (through r (h .2))) (reach-elim p e)
 
     -- a set that holds S and the rows of its members holds all that is reached
     reach-within : (T : Row) → ((q : ℕ) → S q ≡ true → T q ≡ true) → ((p q : ℕ) → T p ≡ true → recorded A p q ≡ true → T q ≡ true)
-        → (q : ℕ) → reachFrom n A S q ≡ true → T q ≡ true
+        → (q : ℕ) → reachFrom n (recorded A) S q ≡ true → T q ≡ true
     reach-within T here next q e = ⊎-elim (here q) (λ h. along (here (h .0) (h .1)) (h .2)) (reach-elim q e)
       where
         along : {q m : ℕ} → T m ≡ true → Before (recorded A) q m → T q ≡ true
@@ -116,7 +114,7 @@ module _ (n : ℕ) (A : Accepted) (on : On n A) where
         along t (through {q = q} {m = m} r b) = next m q (along t b) r
 
   reaching-starts : (S left : PlaceSet) → has left ≡ A .returned → Reaching n A S S left
-  reaching-starts S left e = record { walk = walk-starts A (reachFrom n A (has S)) S left (reach-here (has S)) e; begun = λ q h. h }
+  reaching-starts S left e = record { walk = walk-starts A (reachFrom n (recorded A) (has S)) S left (reach-here (has S)) e; begun = λ q h. h }
 
   module _ (S seen left : PlaceSet) (t : Reaching n A S seen left) (todo : PlaceSet) (e : has todo ≡ intersection (has seen) (has left)) where
     todo-parts : (p : ℕ) → has todo p ≡ true → (has seen p ≡ true) × (has left p ≡ true)
@@ -127,44 +125,44 @@ module _ (n : ℕ) (A : Accepted) (on : On n A) where
     reaching-goes : (p : ℕ) → has todo p ≡ true → (row more rest : PlaceSet) → has row ≡ A .row p → has more ≡ union (has seen) (has row) → has rest ≡ without p (has left)
         → Reaching n A S more rest
     reaching-goes p h row more rest er eu ew = record {
-      walk = walk-goes A (reachFrom n A (has S)) seen left (t .walk) p (λ q r. reach-next (has S) p q (t .walk .sound p (todo-parts p h .0)) r) (todo-parts p h .1) row more rest er eu ew;
+      walk = walk-goes A (reachFrom n (recorded A) (has S)) seen left (t .walk) p (λ q r. reach-next (has S) p q (t .walk .sound p (todo-parts p h .0)) r) (todo-parts p h .1) row more rest er eu ew;
       begun = λ q b. ap (λ (S : Places). S q) eu ∙ or-left (has row q) (t .begun q b);
     }
 
     -- no place of `left` is seen: all that is reached was seen
-    reaching-ends : ((k : ℕ) → k < 128 → has todo k ≡ false) → has seen ≡ reachFrom n A (has S)
+    reaching-ends : ((k : ℕ) → k < 128 → has todo k ≡ false) → has seen ≡ reachFrom n (recorded A) (has S)
     reaching-ends none =
-        fun-ext (λ q. both-ways (has seen q) (reachFrom n A (has S) q) (t .walk .sound q) (reach-within (has S) (has seen) (t .begun) next q))
+        fun-ext (λ q. both-ways (has seen q) (reachFrom n (recorded A) (has S) q) (t .walk .sound q) (reach-within (has S) (has seen) (t .begun) next q))
       where
         next : (p q : ℕ) → has seen p ≡ true → recorded A p q ≡ true → has seen q ≡ true
         next p q s r =
             t .walk .given p q r (is-false (has left p) (λ l. clash (ap (λ (S : Places). S p) e ∙ and-intro s l) (none p (has-below seen p s))))
 
   -- from the row of a place: what is before it
-  pub reach-row : (i : ℕ) → reachFrom n A (recorded A i) ≡ before n A i
-  reach-row i = fun-ext (λ q. both-ways (reachFrom n A (recorded A i) q) (before n A i q) (λ e. before-complete i q (to q e)) (λ e. from q (before-sound i q e)))
+  pub reach-row : (i : ℕ) → reachFrom n (recorded A) (recorded A i) ≡ reach n (recorded A) i
+  reach-row i = fun-ext (λ q. both-ways (reachFrom n (recorded A) (recorded A i) q) (reach n (recorded A) i q) (λ e. before-complete i q (to q e)) (λ e. from q (before-sound i q e)))
     where
-      to : (q : ℕ) → reachFrom n A (recorded A i) q ≡ true → Before (recorded A) q i
+      to : (q : ℕ) → reachFrom n (recorded A) (recorded A i) q ≡ true → Before (recorded A) q i
       to q e = ⊎-elim (λ h. heard h) (λ h. before-trans (h .2) (heard (h .1))) (reach-elim (recorded A i) q e)
 
-      from : (q : ℕ) → Before (recorded A) q i → reachFrom n A (recorded A i) q ≡ true
+      from : (q : ℕ) → Before (recorded A) q i → reachFrom n (recorded A) (recorded A i) q ≡ true
       from q (heard r) = reach-here (recorded A i) q r
       from q (through {m = m} r b) = reach-next (recorded A i) m q (from m b) r
 
 -- ---- as the code goes: `all` is the roster, `back` who of s is on it
 
 module _ (count : ℕ) (w : List ℕ) (all s back : PlaceSet) (ea : has all ≡ below (size count)) (eb : has back ≡ intersection (has all) (has s)) where
-  whole : cut all back w ≡ acceptedIn count (has s) w
+  whole : recorded (cut all back w) ≡ recordedIn count (has s) w
   whole = cut-is count w all s back ea eb
 
   on : On (size count) (cut all back w)
   on = cut-on count w all s back ea eb
 
-  pub recorded-row : (p : ℕ) (row : PlaceSet) → has back p ≡ true → has row ≡ intersection (has all) (rowsOf w p) → has row ≡ recorded (acceptedIn count (has s) w) p
-  recorded-row p row b e = e ∙ recorded-back (cut all back w) p b ∙ ap (λ (A : Accepted). recorded A p) whole
+  pub recorded-row : (p : ℕ) (row : PlaceSet) → has back p ≡ true → has row ≡ intersection (has all) (rowsOf w p) → has row ≡ recordedIn count (has s) w p
+  recorded-row p row b e = e ∙ recorded-back (cut all back w) p b ∙ ap (λ (H : History). H p) whole
 
-  pub recorded-none : (p : ℕ) (row : PlaceSet) → has back p ≡ false → has row ≡ nothing → has row ≡ recorded (acceptedIn count (has s) w) p
-  recorded-none p row b e = e ∙ recorded-absent (cut all back w) p b ∙ ap (λ (A : Accepted). recorded A p) whole
+  pub recorded-none : (p : ℕ) (row : PlaceSet) → has back p ≡ false → has row ≡ nothing → has row ≡ recordedIn count (has s) w p
+  recorded-none p row b e = e ∙ recorded-absent (cut all back w) p b ∙ ap (λ (H : History). H p) whole
 
   pub reached-starts : (S : PlaceSet) → Reaching (size count) (cut all back w) S S back
   reached-starts S = reaching-starts (size count) (cut all back w) on S back refl
@@ -177,6 +175,11 @@ module _ (count : ℕ) (w : List ℕ) (all s back : PlaceSet) (ea : has all ≡ 
         → has rest ≡ without p (has left) → Reaching (size count) (cut all back w) S more rest
     reached-goes = reaching-goes (size count) (cut all back w) on S seen left t next e
 
-    pub reached-ends : ((k : ℕ) → k < 128 → has next k ≡ false) → has seen ≡ reachFrom (size count) (acceptedIn count (has s) w) (has S)
+    pub reached-ends : ((k : ℕ) → k < 128 → has next k ≡ false) → has seen ≡ reachFrom (size count) (recordedIn count (has s) w) (has S)
     reached-ends none =
-        reaching-ends (size count) (cut all back w) on S seen left t next e none ∙ ap (λ (A : Accepted). reachFrom (size count) A (has S)) whole
+        reaching-ends (size count) (cut all back w) on S seen left t next e none ∙ ap (λ (H : History). reachFrom (size count) H (has S)) whole
+
+-- from the recorded row of a place: what is before it
+pub before-row : (count : ℕ) (R : Places) (w : List ℕ) (i : ℕ) → reachFrom (size count) (recordedIn count R w) (recordedIn count R w i) ≡ reach (size count) (recordedIn count R w) i
+unfolding recorded recordedIn acceptedIn
+before-row count R w i = reach-row (size count) (acceptedIn count R R w) (accepted-on count R R w) i

@@ -5,8 +5,10 @@ use Prim.Native.Nat.{ℕ}
 use lib.Dec.{leb}
 use Rattle.places.specs.Sets.{Places, below, intersection, any}
 use Rattle.rows.specs.Rows.{rowsOf}
+use Rattle.histories.specs.declared.Kind.{Kind}
+use Rattle.histories.specs.declared.Kind.the-variants.{Full, Short}
 use Rattle.histories.specs.Histories.{Row, History, Accepted}
-use Rattle.histories.specs.Rule.{Answer, is-last, not-last, is-open, before}
+use Rattle.histories.specs.Rule.{Answer, is-last, not-last, is-open, reach}
 use Rattle.answers.specs.declared.Answer as declared
 use Rattle.answers.specs.declared.Answer.the-variants.{Last, NotLast, Open}
 
@@ -14,16 +16,25 @@ use Rattle.answers.specs.declared.Answer.the-variants.{Last, NotLast, Op
 unfoldable pub size : ℕ → ℕ
 size count = cond (leb count 128) count 128
 
--- who is back, and their rows, as far as the roster goes: places off it are not looked at
-unfoldable pub acceptedIn : ℕ → Places → List ℕ → Accepted
-acceptedIn count returned w = record {
+-- the kind of a place, where the places of the full kind are known
+unfoldable pub kindIn : Places → ℕ → Kind
+kindIn full p = cond (full p) Full Short
+
+-- who is back, and their kinds and rows, as far as the roster goes: places off it are not looked at
+unfoldable pub acceptedIn : ℕ → Places → Places → List ℕ → Accepted
+acceptedIn count returned full w = record {
   returned = intersection (below (size count)) returned;
+  kind = kindIn full;
   row = λ p. intersection (below (size count)) (rowsOf w p);
 }
 
+-- their rows, and empty ones for the others: the kinds do not matter to it
+unfoldable pub recordedIn : ℕ → Places → List ℕ → History
+recordedIn count returned w p q = intersection (below (size count)) returned p && intersection (below (size count)) (rowsOf w p) q
+
 -- S, and all that is before a member of it
-unfoldable pub reachFrom : ℕ → Accepted → Row → Row
-reachFrom n A S q = S q || any n (λ m. S m && before n A m q)
+unfoldable pub reachFrom : ℕ → History → Row → Row
+reachFrom n H S q = S q || any n (λ m. S m && reach n H m q)
 
 -- document 01's words for the rule's answers
 unfoldable pub answerOf : Answer → declared.Answer

@@ -1,14 +1,15 @@
-// The rule, computed from the rows of the returned places and from the mourned places, which are kept beside them. `count` is the roster's
-// length (one above 128 counts as 128); places off the roster, in `returned` or in a row, are not looked at.
+// The rule, computed from the rows of the returned places and from sets that are kept beside them: `full`, the places of the full kind,
+// `mourned`, the mourned ones, and `earlier`, those before some returned full one. `count` is the roster's length (one above 128 counts as
+// 128); places off the roster, in `returned` or in a row, are not looked at.
 ghost use mathlib.Core.Path.{_≡_};
-ghost use mathlib.Core.Bool.{not, _&&_, _||_};
+ghost use mathlib.Core.Bool.{not, cond, _&&_, _||_};
 ghost use Prim.Native.Nat.{_≤_};
 ghost use Rattle.places.specs.Sets as sets;
 ghost use Rattle.places.specs.PlaceSets.{has};
 ghost use Rattle.rows.specs.Rows.{rowsOf};
 ghost use Rattle.histories.specs.Rule as rule;
-ghost use Rattle.histories.specs.declared.Kind.the-variants.{Full, Short};
-ghost use Rattle.answers.specs.Views.{size, acceptedIn, reachFrom, answerOf};
+ghost use Rattle.histories.specs.Kept as kept;
+ghost use Rattle.answers.specs.Views.{size, kindIn, acceptedIn, recordedIn, reachFrom, answerOf};
 use histories::Kind;
 use places::Found;
 use places::Place;
@@ -50,7 +51,7 @@ fn row_in(rows: &Rows, all: PlaceSet, place: Place) -> PlaceSet
 
 // The recorded row of a place, empty where it is not back.
 pub fn recorded(rows: &Rows, returned: PlaceSet, count: usize, place: Place) -> PlaceSet
-    ensures { λ r. ⌜ has r ≡ rule.recorded (acceptedIn count (has returned) (now (rows .entry))) (place .0) ⌝ }
+    ensures { λ r. ⌜ has r ≡ recordedIn count (has returned) (now (rows .entry)) (place .0) ⌝ }
 {
     let all = roster(count);
     let back = places::intersection(all, returned);
@@ -60,9 +61,19 @@ pub fn recorded(rows: &Rows, returned: PlaceSet, count: usize, place: Place) -> 
     places::empty()
 }
 
+// The kind of a place, by the places of the full kind.
+pub fn kind_of(full: PlaceSet, place: Place) -> Kind
+    ensures { λ k. ⌜ k ≡ kindIn (has full) (place .0) ⌝ }
+{
+    if places::contains(full, place) {
+        return Kind::Full;
+    }
+    Kind::Short
+}
+
 // `from`, and all that is before its members: each returned place gives its row at most once.
-pub fn reached(rows: &Rows, returned: PlaceSet, count: usize, from: PlaceSet) -> PlaceSet
-    ensures { λ r. ⌜ has r ≡ reachFrom (size count) (acceptedIn count (has returned) (now (rows .entry))) (has from) ⌝ }
+fn reached(rows: &Rows, returned: PlaceSet, count: usize, from: PlaceSet) -> PlaceSet
+    ensures { λ r. ⌜ has r ≡ reachFrom (size count) (recordedIn count (has returned) (now (rows .entry))) (has from) ⌝ }
 {
     let all = roster(count);
     let mut waiting = places::intersection(all, returned);
@@ -80,101 +91,116 @@ pub fn reached(rows: &Rows, returned: PlaceSet, count: usize, from: PlaceSet) ->
 }
 
 // All that is before a place.
-fn all_before(rows: &Rows, returned: PlaceSet, count: usize, place: Place) -> PlaceSet
-    ensures { λ r. ⌜ has r ≡ rule.before (size count) (acceptedIn count (has returned) (now (rows .entry))) (place .0) ⌝ }
+pub fn before(rows: &Rows, returned: PlaceSet, count: usize, place: Place) -> PlaceSet
+    ensures { λ r. ⌜ has r ≡ rule.reach (size count) (recordedIn count (has returned) (now (rows .entry))) (place .0) ⌝ }
 {
     let row = recorded(rows, returned, count, place);
     reached(rows, returned, count, row)
 }
 
-// The places of the roster that are not back, but for one place.
-fn absent_but(returned: PlaceSet, count: usize, place: Place) -> PlaceSet
-    ensures { λ r. ⌜ has r ≡ sets.difference (sets.difference (sets.below (size count)) (sets.only (place .0))) (sets.intersection (sets.below (size count)) (has returned)) ⌝ }
+// The places of the roster, but for one place, that are neither back nor before a returned full one.
+fn unheard(returned: PlaceSet, earlier: PlaceSet, count: usize, place: Place) -> PlaceSet
+    ensures { λ r. ⌜ has r ≡ sets.difference (sets.difference (sets.difference (sets.below (size count)) (sets.only (place .0))) (sets.intersection (sets.below (size count)) (has returned))) (has earlier) ⌝ }
 {
     let all = roster(count);
     let others = places::without(all, place);
-    places::difference(others, returned)
+    let absent = places::difference(others, returned);
+    places::difference(absent, earlier)
 }
 
-// The blockers of a place in the short kind. Where no other place is absent, nothing is looked up.
-fn blockers_short(rows: &Rows, returned: PlaceSet, count: usize, place: Place) -> PlaceSet
-    ensures { λ r. ⌜ has r ≡ rule.blockersBy Short (size count) (acceptedIn count (has returned) (now (rows .entry))) sets.nothing (place .0) ⌝ }
+// Whether a place is back and full.
+fn full_back(returned: PlaceSet, full: PlaceSet, count: usize, place: Place) -> bool
+    ensures { λ r. ⌜ r ≡ (sets.intersection (sets.below (size count)) (has returned) (place .0) && has full (place .0)) ⌝ }
 {
-    let absent = absent_but(returned, count, place);
-    if places::is_empty(absent) {
-        return absent;
+    let all = roster(count);
+    let back = places::intersection(all, returned);
+    let both = places::intersection(back, full);
+    places::contains(both, place)
+}
+
+// What is left of some places without those before `place`. Where that is back and full they are known to be left out already.
+fn narrowed(
+    rest: PlaceSet,
+    rows: &Rows,
+    returned: PlaceSet,
+    full: PlaceSet,
+    count: usize,
+    place: Place,
+) -> PlaceSet
+    ensures { λ r. ⌜ has r ≡ sets.difference (has rest) (cond (sets.intersection (sets.below (size count)) (has returned) (place .0) && has full (place .0)) sets.nothing (rule.reach (size count) (recordedIn count (has returned) (now (rows .entry))) (place .0))) ⌝ }
+{
+    if full_back(returned, full, count, place) {
+        return rest;
     }
-    let earlier = all_before(rows, returned, count, place);
-    places::difference(absent, earlier)
+    let own = before(rows, returned, count, place);
+    places::difference(rest, own)
 }
 
 // The blockers of a place.
 pub fn blockers(
-    kind: Kind,
     rows: &Rows,
     returned: PlaceSet,
-    mourned: PlaceSet,
+    full: PlaceSet,
+    earlier: PlaceSet,
     count: usize,
     place: Place,
 ) -> PlaceSet
-    ensures { λ r. ⌜ has r ≡ rule.blockersBy kind (size count) (acceptedIn count (has returned) (now (rows .entry))) (has mourned) (place .0) ⌝ }
+    ensures { λ r. ⌜ has r ≡ kept.blockersBy (size count) (acceptedIn count (has returned) (has full) (now (rows .entry))) (has earlier) (place .0) ⌝ }
 {
-    match kind {
-        Kind::Full => {
-            let absent = absent_but(returned, count, place);
-            places::difference(absent, mourned)
-        }
-        Kind::Short => blockers_short(rows, returned, count, place),
-    }
+    let rest = unheard(returned, earlier, count, place);
+    narrowed(rest, rows, returned, full, count, place)
 }
 
-// Whether a place has a blocker. In the full kind that is three set operations, which a caller takes in line.
+// Whether a place has a blocker. Where none is left but for those before it, nothing is looked up.
 fn blocked(
-    kind: Kind,
     rows: &Rows,
     returned: PlaceSet,
-    mourned: PlaceSet,
+    full: PlaceSet,
+    earlier: PlaceSet,
     count: usize,
     place: Place,
 ) -> bool
-    ensures { λ r. ⌜ r ≡ sets.any (size count) (rule.blockersBy kind (size count) (acceptedIn count (has returned) (now (rows .entry))) (has mourned) (place .0)) ⌝ }
+    ensures { λ r. ⌜ r ≡ sets.any (size count) (kept.blockersBy (size count) (acceptedIn count (has returned) (has full) (now (rows .entry))) (has earlier) (place .0)) ⌝ }
 {
-    match kind {
-        Kind::Full => {
-            let absent = absent_but(returned, count, place);
-            let rest = places::difference(absent, mourned);
-            !places::is_empty(rest)
-        }
-        Kind::Short => {
-            let rest = blockers_short(rows, returned, count, place);
-            !places::is_empty(rest)
-        }
+    let rest = unheard(returned, earlier, count, place);
+    if places::is_empty(rest) {
+        return false;
     }
+    let left = narrowed(rest, rows, returned, full, count, place);
+    !places::is_empty(left)
 }
 
 // The answer for a place.
 pub fn answer_for(
-    kind: Kind,
     rows: &Rows,
     returned: PlaceSet,
+    full: PlaceSet,
     mourned: PlaceSet,
+    earlier: PlaceSet,
     count: usize,
     place: Place,
 ) -> Answer
-    ensures { λ r. ⌜ r ≡ answerOf (rule.answerBy kind (size count) (acceptedIn count (has returned) (now (rows .entry))) (has mourned) (place .0)) ⌝ }
+    ensures { λ r. ⌜ r ≡ answerOf (kept.answerBy (size count) (acceptedIn count (has returned) (has full) (now (rows .entry))) (has mourned) (has earlier) (place .0)) ⌝ }
 {
     if places::contains(mourned, place) {
         return Answer::NotLast;
     }
-    if blocked(kind, rows, returned, mourned, count, place) {
+    if blocked(rows, returned, full, earlier, count, place) {
         return Answer::Open;
     }
     Answer::Last
 }
 
 // Whether no place of the roster is open.
-pub fn settled(kind: Kind, rows: &Rows, returned: PlaceSet, mourned: PlaceSet, count: usize) -> bool
-    ensures { λ r. ⌜ r ≡ rule.settledBy kind (size count) (acceptedIn count (has returned) (now (rows .entry))) (has mourned) ⌝ }
+pub fn settled(
+    rows: &Rows,
+    returned: PlaceSet,
+    full: PlaceSet,
+    mourned: PlaceSet,
+    earlier: PlaceSet,
+    count: usize,
+) -> bool
+    ensures { λ r. ⌜ r ≡ kept.settledBy (size count) (acceptedIn count (has returned) (has full) (now (rows .entry))) (has mourned) (has earlier) ⌝ }
 {
     let mut unasked = unmourned(mourned, count);
     loop {
@@ -182,7 +208,7 @@ pub fn settled(kind: Kind, rows: &Rows, returned: PlaceSet, mourned: PlaceSet, c
         let Found::At(p) = found else {
             return true;
         };
-        if blocked(kind, rows, returned, mourned, count, p) {
+        if blocked(rows, returned, full, earlier, count, p) {
             return false;
         }
         unasked = places::without(unasked, p);
@@ -197,78 +223,78 @@ pub fn unmourned(mourned: PlaceSet, count: usize) -> PlaceSet
     places::difference(all, mourned)
 }
 
-// Whether both are true.
-fn both(x: bool, y: bool) -> bool
-    ensures { λ r. ⌜ r ≡ (x && y) ⌝ }
-{
-    if x { y } else { false }
-}
-
-// Whether the second is true where the first is.
-fn implies(x: bool, y: bool) -> bool
-    ensures { λ r. ⌜ r ≡ (not x || y) ⌝ }
-{
-    if x { y } else { true }
-}
-
-// Whether a record of `place` with the mourned set `named` agrees with the row of `other`, in the full kind.
-fn agrees(row: PlaceSet, other: Place, place: Place, named: PlaceSet) -> bool
-    ensures { λ r. ⌜ r ≡ ((not (has named (other .0)) || sets.subset 128 (has row) (has named)) && (not (has row (place .0)) || sets.subset 128 (has named) (has row))) ⌝ }
-{
-    let lower = implies(
-        places::contains(named, other),
-        places::is_subset(row, named),
-    );
-    let upper = implies(places::contains(row, place), places::is_subset(named, row));
-    both(lower, upper)
-}
-
-// The test in the full kind: the record does not name its own place, and agrees with that of each returned place.
-fn accepts_full(rows: &Rows, returned: PlaceSet, count: usize, place: Place, row: PlaceSet) -> bool
-    ensures { λ r. ⌜ r ≡ rule.accepts Full (size count) (acceptedIn count (has returned) (now (rows .entry))) (place .0) (has row) ⌝ }
+// Whether a row that names a place holds some others.
+fn agrees(row: PlaceSet, place: Place, known: PlaceSet) -> bool
+    ensures { λ r. ⌜ r ≡ (not (has row (place .0)) || sets.subset 128 (has known) (has row)) ⌝ }
 {
     if places::contains(row, place) {
-        return false;
+        return places::is_subset(known, row);
     }
+    true
+}
+
+// Whether each row of a returned full place that names `place` holds those before it.
+fn all_agree(
+    rows: &Rows,
+    returned: PlaceSet,
+    full: PlaceSet,
+    count: usize,
+    place: Place,
+    preceding: PlaceSet,
+) -> bool
+    ensures { λ r. ⌜ r ≡ sets.all (size count) (rule.agrees (size count) (acceptedIn count (has returned) (has full) (now (rows .entry))) (place .0) (has preceding)) ⌝ }
+{
     let all = roster(count);
-    let named = places::intersection(all, row);
-    let mut left = places::intersection(all, returned);
+    let known = places::intersection(all, preceding);
+    let back = places::intersection(all, returned);
+    let mut left = places::intersection(back, full);
     loop {
         let found = places::lowest(left);
         let Found::At(p) = found else {
             return true;
         };
         let theirs = row_in(rows, all, p);
-        if !agrees(theirs, p, place, named) {
+        if !agrees(theirs, place, known) {
             return false;
         }
         left = places::without(left, p);
     }
 }
 
-// The test in the short kind: no chain leads from the record back to its place. A chain that passes the place twice has a
-// shorter one, so the place's own row is left out.
-fn accepts_short(rows: &Rows, returned: PlaceSet, count: usize, place: Place, row: PlaceSet) -> bool
-    ensures { λ r. ⌜ r ≡ rule.accepts Short (size count) (acceptedIn count (has returned) (now (rows .entry))) (place .0) (has row) ⌝ }
+// Whether a full record names all that are before it; a short one need not.
+fn names_all(kind: Kind, count: usize, row: PlaceSet, preceding: PlaceSet) -> bool
+    ensures { λ r. ⌜ r ≡ (not (rule.isFull kind) || sets.subset (size count) (has preceding) (has row)) ⌝ }
 {
-    let others = places::without(returned, place);
-    let earlier = reached(rows, others, count, row);
-    !places::contains(earlier, place)
+    match kind {
+        Kind::Full => {
+            let all = roster(count);
+            let known = places::intersection(all, preceding);
+            places::is_subset(known, row)
+        }
+        Kind::Short => true,
+    }
 }
 
-// Whether the record of a place that is not back, with this row, may be taken: the test for 11.
+// Whether the record of a place that is not back, of this kind and with this row, may be taken: the test for 11. A chain that passes the
+// place twice has a shorter one, so the place's own row is left out of the walk.
 pub fn accepts(
     kind: Kind,
     rows: &Rows,
     returned: PlaceSet,
+    full: PlaceSet,
     count: usize,
     place: Place,
     row: PlaceSet,
 ) -> bool
-    ensures { λ r. ⌜ r ≡ rule.accepts kind (size count) (acceptedIn count (has returned) (now (rows .entry))) (place .0) (has row) ⌝ }
+    ensures { λ r. ⌜ r ≡ rule.accepts (size count) (acceptedIn count (has returned) (has full) (now (rows .entry))) (place .0) kind (has row) ⌝ }
 {
-    match kind {
-        Kind::Full => accepts_full(rows, returned, count, place, row),
-        Kind::Short => accepts_short(rows, returned, count, place, row),
+    let others = places::without(returned, place);
+    let preceding = reached(rows, others, count, row);
+    if places::contains(preceding, place) {
+        return false;
     }
+    if !names_all(kind, count, row, preceding) {
+        return false;
+    }
+    all_agree(rows, returned, full, count, place, preceding)
 }

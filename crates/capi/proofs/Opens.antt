@@ -8,31 +8,31 @@ use Rattle.recovery.specs.Contracts.{opened}
 use Rattle.executions.specs.declared.Begun.{Begun}
 use Rattle.executions.specs.declared.Opening.the-variants as B
 use Rattle.executions.specs.Contracts.{begun}
-use Rattle.capi.specs.Boundary.{headOf, setWords, openedAs, openedHeld, begunAs, begunHeld}
+use Rattle.capi.specs.Boundary.{headWords, headOf, dayHeadOf, openedAs, openedHeld, begunAs, begunHeld}
 
-module _ (kind : ℕ) (s head mourned serials seconds rows : List ℕ) where
-  -- the number, the words, the mourned places, the serials of both kinds and the rows are those of opening
-  abbrev pub Opens : ℕ → List ℕ → List ℕ → List ℕ → List ℕ → List ℕ → Type 0
-  Opens c h k a b t =
-      (c ≡ openedHeld kind s head mourned serials seconds rows .code)
-      × ((h ≡ openedHeld kind s head mourned serials seconds rows .head)
-      × ((k ≡ openedHeld kind s head mourned serials seconds rows .mourned)
-      × ((a ≡ openedHeld kind s head mourned serials seconds rows .serials)
-      × ((b ≡ openedHeld kind s head mourned serials seconds rows .seconds) × (t ≡ openedHeld kind s head mourned serials seconds rows .rows))
-      )))
+module _ (s head serials seconds rows : List ℕ) where
+  -- the number, the words, the serials, first and second, and the rows are those of opening
+  abbrev pub Opens : ℕ → List ℕ → List ℕ → List ℕ → List ℕ → Type 0
+  Opens c h a b t =
+      (c ≡ openedHeld s head serials seconds rows .code)
+      × ((h ≡ openedHeld s head serials seconds rows .head)
+      × ((a ≡ openedHeld s head serials seconds rows .serials)
+      × ((b ≡ openedHeld s head serials seconds rows .seconds) × (t ≡ openedHeld s head serials seconds rows .rows))
+      ))
 
-  module _ (o : Opened) (is : o ≡ opened kind s) where
-    pub opens-done : o .answer ≡ G.Opened → (h k : List ℕ) → h ≡ headOf (o .recovery .kind) (o .recovery .count) (o .recovery .returned) → k ≡ setWords (o .recovery .mourned)
-        → Opens 0 h k (o .recovery .serials) (o .recovery .seconds) (o .recovery .rows)
+  module _ (o : Opened) (is : o ≡ opened s) where
+    pub opens-done : o .answer ≡ G.Opened → (h : List ℕ)
+        → h ≡ headWords (o .recovery .count) (o .recovery .returned) (o .recovery .full) (o .recovery .mourned) (o .recovery .earlier)
+        → Opens 0 h (o .recovery .serials) (o .recovery .seconds) (o .recovery .rows)
+    unfolding openedHeld openedAs headOf
+    opens-done e h f = rw (← is, e) (refl, (f, (refl, (refl, refl))))
+
+    pub opens-refused : (j : ℕ) → o .answer ≡ G.Refused j → Opens j head serials seconds rows
     unfolding openedHeld openedAs
-    opens-done e h k f g = rw (← is, e) (refl, (f, (g, (refl, (refl, refl)))))
-
-    pub opens-refused : (j : ℕ) → o .answer ≡ G.Refused j → Opens j head mourned serials seconds rows
-    unfolding openedHeld openedAs
-    opens-refused j e = rw (← is, e) (refl, (refl, (refl, (refl, (refl, refl)))))
+    opens-refused j e = rw (← is, e) (refl, (refl, (refl, (refl, refl))))
 
 module _ (kind : ℕ) (s head serials rows : List ℕ) where
-  -- the same for a day, which has no mourned places
+  -- the same for a day, which has no second serials
   abbrev pub Begins : ℕ → List ℕ → List ℕ → List ℕ → Type 0
   Begins c h a t =
       (c ≡ begunHeld kind s head serials rows .code)
@@ -41,7 +41,7 @@ module _ (kind : ℕ) (s head serials rows : List ℕ) where
       )
 
   module _ (o : Begun) (is : o ≡ begun kind s) where
-    pub begins-done : o .answer ≡ B.Opened → (h : List ℕ) → h ≡ headOf (o .day .kind) (o .day .count) (o .day .stopped) → Begins 0 h (o .day .serials) (o .day .rows)
+    pub begins-done : o .answer ≡ B.Opened → (h : List ℕ) → h ≡ dayHeadOf (o .day .kind) (o .day .count) (o .day .stopped) → Begins 0 h (o .day .serials) (o .day .rows)
     unfolding begunHeld begunAs
     begins-done e h f = rw (← is, e) (refl, (f, (refl, refl)))
 

@@ -18,8 +18,8 @@ use Rattle.executions.specs.Contracts.{sizeOf, executionOf, stopping, hearing, 
 use Rattle.capi.specs.declared.DayNow.{DayNow}
 use Rattle.capi.specs.declared.EventNow.{EventNow}
 use Rattle.capi.specs.declared.PlayedNow.{PlayedNow}
-use Rattle.capi.specs.Boundary.{kindIn, setIn, dayIn, eventOf, withSet, dayOf, dayNow, eventIn, eventsIn, playedAs, playedNow, playedOf, steppedNow}
-use Rattle.capi.proofs.Offers.{same-set}
+use Rattle.capi.specs.Boundary.{kindIn, setAt, stoppedIn, dayIn, eventOf, withStopped, dayOf, dayNow, eventIn, eventsIn, playedAs, playedNow, playedOf, steppedNow}
+use Rattle.capi.proofs.Days.{same-head}
 
 -- ---- a kind as a byte
 
@@ -82,7 +82,7 @@ same-stepped p e = go (eqb (p .refusal) 0) (eqb (happened (p .day) e .refusal) 0
 
 same-day : (d : DayNow) → length (d .head) ≡ 4 → d ≡ dayNow d (dayOf d)
 unfolding dayNow dayOf dayIn
-same-day d l = λ i. record { head = same-set (d .head) l i; serials = d .serials; rows = d .rows }
+same-day d l = λ i. record { head = same-head (d .head) l i; serials = d .serials; rows = d .rows }
 
 as-itself : (p : PlayedNow) → length (p .day .head) ≡ 4 → p ≡ playedAs (p .day) (playedOf p)
 unfolding playedAs playedOf
@@ -90,7 +90,7 @@ as-itself p l = λ i. record { count = p .count; refusal = p .refusal; day = sam
 
 -- what is in a struct is what was put there, where the kind, the count and the serials are its own
 put-back : (d : DayNow) (q : Played) → Same (dayOf d) (q .day) → playedOf (playedAs d q) ≡ q
-unfolding playedOf playedAs dayOf dayNow dayIn kindIn setIn withSet
+unfolding playedOf playedAs dayOf dayNow dayIn kindIn stoppedIn setAt withStopped
 put-back d q s = λ i. record {
   count = q .count;
   refusal = q .refusal;
@@ -98,11 +98,11 @@ put-back d q s = λ i. record {
 }
 
 put-twice : (d : DayNow) (p q : Played) → playedAs (playedAs d p .day) q ≡ playedAs d q
-unfolding playedAs dayNow withSet
+unfolding playedAs dayNow withStopped
 put-twice d p q = refl
 
 put-four : (d : DayNow) (q : Played) → length (playedAs d q .day .head) ≡ 4
-unfolding playedAs dayNow withSet
+unfolding playedAs dayNow withStopped
 put-four d q = refl
 
 -- ---- one event

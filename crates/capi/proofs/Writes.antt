@@ -8,51 +8,52 @@ use borrow.Author.Tests.{ne-eqb}
 use Rattle.places.specs.Sets.{Places}
 use Rattle.places.specs.PlaceSets.{has}
 use Rattle.places.specs.declared.PlaceSet.{PlaceSet}
+use Rattle.histories.specs.declared.Kind.{Kind}
 use Rattle.histories.specs.declared.Kind.the-variants.{Full, Short}
-use Rattle.histories.specs.Rule as rule
-use Rattle.answers.specs.Views.{size, acceptedIn}
+use Rattle.answers.specs.Views.{size, kindIn, recordedIn}
 use Rattle.records.specs.Layout.{knownKind, kindOf}
 use Rattle.records.specs.declared.Writing.{Writing}
 use Rattle.records.specs.declared.Writing.the-variants as W
 use Rattle.records.specs.Records.{Written, unwritten, written}
 use Rattle.recovery.specs.declared.Recovery.{Recovery}
-use Rattle.recovery.specs.Contracts.{sizeOf, acceptedOf, writtenOf}
+use Rattle.recovery.specs.Contracts.{sizeOf, writtenOf}
 use Rattle.recovery.proofs.Writes.{Leaves, write-12, write-14, write-back}
 use Rattle.capi.specs.declared.Head.{Head}
 use Rattle.capi.specs.declared.End.{End}
-use Rattle.capi.specs.Boundary.{setAt, recoveryIn, endOf, writtenParts}
+use Rattle.capi.specs.Boundary.{recoveryIn, endOf, writtenParts}
 use Rattle.capi.proofs.Calls.{Says, partsOf, held}
 
 -- ---- the record of a returned place
 
 module _ (head : List ℕ) (h : Head) (says : Says head h) (serials rows : List ℕ) (p : ℕ) (out : List ℕ) (at : ℕ) where
-  -- the answer and the buffer, whatever the mourned places are
+  -- the answer and the buffer, whatever the second serials are
   abbrev pub Backs : Writing → List ℕ → Type 0
   Backs a after =
-      ((mourned seconds : List ℕ) → a ≡ writtenOf (recoveryIn head mourned serials seconds rows) p out at .answer)
-      × ((mourned seconds : List ℕ) → after ≡ writtenOf (recoveryIn head mourned serials seconds rows) p out at .buffer)
+      ((seconds : List ℕ) → a ≡ writtenOf (recoveryIn head serials seconds rows) p out at .answer)
+      × ((seconds : List ℕ) → after ≡ writtenOf (recoveryIn head serials seconds rows) p out at .buffer)
 
-  backs : (a : Writing) (after : List ℕ) → ((named : PlaceSet) (seconds : List ℕ) → Leaves (partsOf h named serials seconds rows) p out at a after) → Backs a after
-  backs a after l = (λ m s. in-memory m s .0, λ m s. in-memory m s .1)
+  backs : (a : Writing) (after : List ℕ) → ((seconds : List ℕ) → Leaves (partsOf h serials seconds rows) p out at a after) → Backs a after
+  backs a after l = (λ s. in-memory s .0, λ s. in-memory s .1)
     where
-      in-memory : (mourned seconds : List ℕ) → Leaves (recoveryIn head mourned serials seconds rows) p out at a after
-      in-memory mourned seconds = subst (λ (r : Recovery). Leaves r p out at a after) (held head mourned h (setAt mourned) says refl serials seconds rows) (l (setAt mourned) seconds)
+      in-memory : (seconds : List ℕ) → Leaves (recoveryIn head serials seconds rows) p out at a after
+      in-memory seconds = subst (λ (r : Recovery). Leaves r p out at a after) (held head h says serials seconds rows) (l seconds)
 
   pub back-12 : size (h .count) ≤ p → Backs (W.Refused 12) out
   unfolding sizeOf
-  back-12 l = backs (W.Refused 12) out (λ m s. write-12 (partsOf h m serials s rows) p out at l)
+  back-12 l = backs (W.Refused 12) out (λ s. write-12 (partsOf h serials s rows) p out at l)
 
   module _ (l : p < size (h .count)) where
-    pub back-14 : has (h .set) p ≡ false → Backs (W.Refused 14) out
+    pub back-14 : has (h .returned) p ≡ false → Backs (W.Refused 14) out
     unfolding sizeOf
-    back-14 e = backs (W.Refused 14) out (λ m s. write-14 (partsOf h m serials s rows) p out at l e)
+    back-14 e = backs (W.Refused 14) out (λ s. write-14 (partsOf h serials s rows) p out at l e)
 
-    pub back-written : has (h .set) p ≡ true → (n : ℕ) → n ≡ size (h .count) → n ≡ length (take n serials)
-        → (row : PlaceSet) → has row ≡ rule.recorded (acceptedIn (h .count) (has (h .set)) rows) p → (a : Writing) (after : List ℕ)
-        → (a ≡ written (h .kind) p (take n serials) (has row) out at .answer) × (after ≡ written (h .kind) p (take n serials) (has row) out at .buffer)
+    pub back-written : has (h .returned) p ≡ true → (n : ℕ) → n ≡ size (h .count) → n ≡ length (take n serials)
+        → (row : PlaceSet) → has row ≡ recordedIn (h .count) (has (h .returned)) rows p
+        → (k : Kind) → k ≡ kindIn (has (h .full)) p → (a : Writing) (after : List ℕ)
+        → (a ≡ written k p (take n serials) (has row) out at .answer) × (after ≡ written k p (take n serials) (has row) out at .buffer)
         → Backs a after
-    unfolding sizeOf acceptedOf
-    back-written b n is all row e a after w = backs a after (λ m s. write-back (partsOf h m serials s rows) p out at l b n is all row e a after w)
+    unfolding sizeOf
+    back-written b n is all row e k f a after w = backs a after (λ s. write-back (partsOf h serials s rows) p out at l b n is all row e k f a after w)
 
 -- ---- where it ends, as two words
 

@@ -1,8 +1,8 @@
--- The boundary to C: a recovery or a day as four words, 128 serials and 2,048 bytes of rows in the caller's memory, of a recovery
--- two words of mourned places and 128 second serials too, and document 01's answers as numbers. Assumes nothing.
+-- The boundary to C: a recovery as nine words, 128 serials, 128 second serials and 2,048 bytes of rows in the caller's memory, a day as
+-- four words, 128 serials and the rows, and document 01's answers as numbers. Assumes nothing.
 use mathlib.Core.Bool.{Bool, cond}
 use mathlib.Core.List.{List, [], _∷_}
-use Prim.Native.Nat.{ℕ}
+use Prim.Native.Nat.{ℕ, _+_}
 use lib.ListN.{getD}
 use lib.Dec.{eqb}
 use Rattle.places.specs.Sets.{Places}
@@ -46,48 +46,59 @@ use Rattle.capi.specs.declared.DayNow.{DayNow}
 use Rattle.capi.specs.declared.EventNow.{EventNow}
 use Rattle.capi.specs.declared.PlayedNow.{PlayedNow}
 
--- ---- a recovery, or a day, in the caller's memory
+-- ---- a recovery in the caller's memory
 
--- the four words: the kind (2 is short, every other word counts as full), the count, and two words of places: those back, or stopped
-unfoldable pub kindIn : List ℕ → Kind
-kindIn head = cond (eqb (getD head 0 0) 2) Short Full
-
-unfoldable pub setIn : List ℕ → PlaceSet
-setIn head = record { low = getD head 2 0; high = getD head 3 0 }
-
--- two words of places alone
-unfoldable pub setAt : List ℕ → PlaceSet
-setAt w = record { low = getD w 0 0; high = getD w 1 0 }
+-- two words of places from a position on
+unfoldable pub setAt : List ℕ → ℕ → PlaceSet
+setAt w k = record { low = getD w k 0; high = getD w (k + 1) 0 }
 
 unfoldable pub setWords : PlaceSet → List ℕ
 setWords s = s .low ∷ s .high ∷ []
 
-unfoldable pub recoveryIn : List ℕ → List ℕ → List ℕ → List ℕ → List ℕ → Recovery
-recoveryIn head mourned serials seconds rows = record {
-  kind = kindIn head;
-  count = getD head 1 0;
+-- the nine words: the count, and two words each of the places that are back, the full ones, the mourned ones and the earlier ones
+unfoldable pub recoveryIn : List ℕ → List ℕ → List ℕ → List ℕ → Recovery
+recoveryIn head serials seconds rows = record {
+  count = getD head 0 0;
   serials = serials;
   seconds = seconds;
-  returned = setIn head;
-  mourned = setAt mourned;
+  returned = setAt head 1;
+  full = setAt head 3;
+  mourned = setAt head 5;
+  earlier = setAt head 7;
   rows = rows;
 }
 
+unfoldable pub headWords : ℕ → PlaceSet → PlaceSet → PlaceSet → PlaceSet → List ℕ
+headWords count returned full mourned earlier =
+    count ∷ returned .low ∷ returned .high ∷ full .low ∷ full .high ∷ mourned .low ∷ mourned .high ∷ earlier .low ∷ earlier .high ∷ []
+
+-- the nine words of a recovery
+unfoldable pub headOf : Recovery → List ℕ
+headOf r = headWords (r .count) (r .returned) (r .full) (r .mourned) (r .earlier)
+
+-- ---- a day in the caller's memory
+
+-- the four words: the kind (2 is short, every other word counts as full), the count, and two words of the places that have stopped
+unfoldable pub kindIn : List ℕ → Kind
+kindIn head = cond (eqb (getD head 0 0) 2) Short Full
+
+unfoldable pub stoppedIn : List ℕ → PlaceSet
+stoppedIn head = setAt head 2
+
 unfoldable pub dayIn : List ℕ → List ℕ → List ℕ → Day
-dayIn head serials rows = record { kind = kindIn head; count = getD head 1 0; serials = serials; stopped = setIn head; rows = rows }
+dayIn head serials rows = record { kind = kindIn head; count = getD head 1 0; serials = serials; stopped = stoppedIn head; rows = rows }
 
-unfoldable pub headOf : Kind → ℕ → PlaceSet → List ℕ
-headOf k count s = kindByte k ∷ count ∷ s .low ∷ s .high ∷ []
+unfoldable pub dayHeadOf : Kind → ℕ → PlaceSet → List ℕ
+dayHeadOf k count s = kindByte k ∷ count ∷ s .low ∷ s .high ∷ []
 
--- the words with other places
-unfoldable pub withSet : List ℕ → PlaceSet → List ℕ
-withSet head s = getD head 0 0 ∷ getD head 1 0 ∷ s .low ∷ s .high ∷ []
+-- the words with other places that have stopped
+unfoldable pub withStopped : List ℕ → PlaceSet → List ℕ
+withStopped head s = getD head 0 0 ∷ getD head 1 0 ∷ s .low ∷ s .high ∷ []
 
 -- what a call answers, and the caller's memory after it: of a recovery, and of a day
 pub record Held : Type 0 where
   pub code : ℕ
   pub head : List ℕ
-  pub mourned : List ℕ
   pub serials : List ℕ
   pub seconds : List ℕ
   pub rows : List ℕ
@@ -146,16 +157,15 @@ wordsOf S = setWords (packed S)
 
 -- ---- opening: the caller's memory is written only where it is opened
 
-unfoldable pub openedAs : Opening → Recovery → List ℕ → List ℕ → List ℕ → List ℕ → List ℕ → Held
-openedAs G.Opened r head mourned serials seconds rows =
-    record { code = 0; head = headOf (r .kind) (r .count) (r .returned); mourned = setWords (r .mourned); serials = r .serials; seconds = r .seconds; rows = r .rows }
-openedAs (G.Refused j) r head mourned serials seconds rows = record { code = j; head = head; mourned = mourned; serials = serials; seconds = seconds; rows = rows }
+unfoldable pub openedAs : Opening → Recovery → List ℕ → List ℕ → List ℕ → List ℕ → Held
+openedAs G.Opened r head serials seconds rows = record { code = 0; head = headOf r; serials = r .serials; seconds = r .seconds; rows = r .rows }
+openedAs (G.Refused j) r head serials seconds rows = record { code = j; head = head; serials = serials; seconds = seconds; rows = rows }
 
-unfoldable pub openedHeld : ℕ → List ℕ → List ℕ → List ℕ → List ℕ → List ℕ → List ℕ → Held
-openedHeld kind s head mourned serials seconds rows = openedAs (opened kind s .answer) (opened kind s .recovery) head mourned serials seconds rows
+unfoldable pub openedHeld : List ℕ → List ℕ → List ℕ → List ℕ → List ℕ → Held
+openedHeld s head serials seconds rows = openedAs (opened s .answer) (opened s .recovery) head serials seconds rows
 
 unfoldable pub begunAs : day.Opening → Day → List ℕ → List ℕ → List ℕ → DayHeld
-begunAs B.Opened d head serials rows = record { code = 0; head = headOf (d .kind) (d .count) (d .stopped); serials = d .serials; rows = d .rows }
+begunAs B.Opened d head serials rows = record { code = 0; head = dayHeadOf (d .kind) (d .count) (d .stopped); serials = d .serials; rows = d .rows }
 begunAs (B.Refused j) d head serials rows = record { code = j; head = head; serials = serials; rows = rows }
 
 unfoldable pub begunHeld : ℕ → List ℕ → List ℕ → List ℕ → List ℕ → DayHeld
@@ -163,15 +173,14 @@ begunHeld kind s head serials rows = begunAs (begun kind s .answer) (begun kind 
 
 -- ---- offering a lone record
 
-unfoldable pub offeredHeld : List ℕ → List ℕ → List ℕ → List ℕ → List ℕ → List ℕ → Held
-offeredHeld head mourned serials seconds rows bytes =
+unfoldable pub offeredHeld : List ℕ → List ℕ → List ℕ → List ℕ → List ℕ → Held
+offeredHeld head serials seconds rows bytes =
     record {
-      code = replyCode (offered (recoveryIn head mourned serials seconds rows) bytes .answer);
-      head = withSet head (offered (recoveryIn head mourned serials seconds rows) bytes .recovery .returned);
-      mourned = setWords (offered (recoveryIn head mourned serials seconds rows) bytes .recovery .mourned);
+      code = replyCode (offered (recoveryIn head serials seconds rows) bytes .answer);
+      head = headOf (offered (recoveryIn head serials seconds rows) bytes .recovery);
       serials = serials;
       seconds = seconds;
-      rows = offered (recoveryIn head mourned serials seconds rows) bytes .recovery .rows;
+      rows = offered (recoveryIn head serials seconds rows) bytes .recovery .rows;
     }
 
 -- ---- one event of a day
@@ -183,7 +192,7 @@ unfoldable pub happenedHeld : List ℕ → List ℕ → List ℕ → Event → D
 happenedHeld head serials rows e =
     record {
       code = happened (dayIn head serials rows) e .refusal;
-      head = withSet head (happened (dayIn head serials rows) e .day .stopped);
+      head = withStopped head (happened (dayIn head serials rows) e .day .stopped);
       serials = serials;
       rows = happened (dayIn head serials rows) e .day .rows;
     }
@@ -195,7 +204,7 @@ dayOf d = dayIn (d .head) (d .serials) (d .rows)
 
 -- its words, serials and rows after it: who has stopped and who heard what are another day's
 unfoldable pub dayNow : DayNow → Day → DayNow
-dayNow d after = record { head = withSet (d .head) (after .stopped); serials = d .serials; rows = after .rows }
+dayNow d after = record { head = withStopped (d .head) (after .stopped); serials = d .serials; rows = after .rows }
 
 unfoldable pub eventIn : EventNow → Event
 eventIn e = eventOf (e .kind) (e .place) (e .other)

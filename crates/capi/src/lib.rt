@@ -1,7 +1,8 @@
-// The library as C links it. A recovery and a day are arrays in the caller's memory: four words (the kind, the count, two words of the
-// places that are back, or have stopped), 128 serials, 2,048 bytes of rows, and of a recovery two words of its mourned places and 128
-// second serials. Nothing is kept between calls, and every input has an answer: include/goatmonth.h says what a caller promises of its
-// pointers. specs/Boundary.antt has the numbers of the answers.
+// The library as C links it. A recovery and a day are arrays in the caller's memory. A recovery has nine words (the count, and two words
+// each of the places that are back, the full ones, the mourned ones and the earlier ones), 128 serials, 128 second serials and 2,048
+// bytes of rows; a day has four words (the kind, the count, two words of the places that have stopped), 128 serials and the rows. Nothing
+// is kept between calls, and every input has an answer: include/goatmonth.h says what a caller promises of its pointers.
+// specs/Boundary.antt has the numbers of the answers.
 ghost use mathlib.Core.Path.{_≡_};
 ghost use mathlib.Core.Bool.{cond};
 ghost use mathlib.Core.List.{List, [], _∷_};
@@ -12,9 +13,9 @@ ghost use Rattle.places.specs.PlaceSets.{has};
 ghost use Rattle.rosters.specs.Seconds.{countsAs};
 ghost use Rattle.records.specs.Layout.{kindByte};
 ghost use Rattle.records.specs.Records.{reading, readingLone, rosterIs, copiable, copied};
-ghost use Rattle.recovery.specs.Contracts.{answered, asked, shown, checked, settledOf, unmournedOf, unmournedAbsentOf, unmournedCountOf, foundIn, given, writtenOf};
+ghost use Rattle.recovery.specs.Contracts.{keepingFull, keepingRow, keeping, answered, asked, shown, checked, settledOf, unmournedOf, unmournedAbsentOf, unmournedCountOf, foundIn, given, writtenOf};
 ghost use Rattle.executions.specs.Contracts as days;
-ghost use Rattle.capi.specs.Boundary.{kindIn, setIn, recoveryIn, dayIn, setAt, setWords, eventOf, headOf, withSet, openedHeld, begunHeld, offeredHeld, happenedHeld, dayOf, dayNow, playedNow, steppedNow, replyCode, askedCode, showingCode, checkedCode, yesCode, foundOf, givingCode, endOf, wordsOf, readCode, readWords, writtenParts};
+ghost use Rattle.capi.specs.Boundary.{kindIn, stoppedIn, recoveryIn, dayIn, setAt, setWords, headWords, headOf, eventOf, dayHeadOf, withStopped, openedHeld, begunHeld, offeredHeld, happenedHeld, dayOf, dayNow, playedNow, steppedNow, replyCode, askedCode, showingCode, checkedCode, yesCode, foundOf, givingCode, endOf, wordsOf, readCode, readWords, writtenParts};
 use answers::Answer;
 use executions::Day;
 use executions::Event;
@@ -69,13 +70,78 @@ pub struct PlayedNow {
     pub day: DayNow,
 }
 
-// ---- the four words of a recovery or a day
+// ---- the nine words of a recovery
 
-// What they say: the kind, the count, and the places that are back, or have stopped.
+// What they say: the count, and the places that are back, the full ones, the mourned ones and the earlier ones.
 struct Head {
+    count: usize,
+    returned: PlaceSet,
+    full: PlaceSet,
+    mourned: PlaceSet,
+    earlier: PlaceSet,
+}
+
+fn read_head(head: &[u64]) -> Head
+    requires { ⌜ length (now head) ≡ 9 ⌝ }
+    ensures { λ h. ⌜ h .count ≡ getD (now (head .entry)) 0 0 ⌝ }
+    ensures { λ h. ⌜ h .returned ≡ setAt (now (head .entry)) 1 ⌝ }
+    ensures { λ h. ⌜ h .full ≡ setAt (now (head .entry)) 3 ⌝ }
+    ensures { λ h. ⌜ h .mourned ≡ setAt (now (head .entry)) 5 ⌝ }
+    ensures { λ h. ⌜ h .earlier ≡ setAt (now (head .entry)) 7 ⌝ }
+{
+    let returned = PlaceSet {
+        low: head[1],
+        high: head[2],
+    };
+    let full = PlaceSet {
+        low: head[3],
+        high: head[4],
+    };
+    let mourned = PlaceSet {
+        low: head[5],
+        high: head[6],
+    };
+    let earlier = PlaceSet {
+        low: head[7],
+        high: head[8],
+    };
+    Head {
+        count: head[0] as usize,
+        returned,
+        full,
+        mourned,
+        earlier,
+    }
+}
+
+fn write_head(head: &mut [u64; 9], h: Head)
+    ensures { λ r. ⌜ now (head .exit) ≡ headWords (h .count) (h .returned) (h .full) (h .mourned) (h .earlier) ⌝ }
+{
+    let returned = h.returned;
+    let full = h.full;
+    let mourned = h.mourned;
+    let earlier = h.earlier;
+    let words = [
+        h.count as u64,
+        returned.low,
+        returned.high,
+        full.low,
+        full.high,
+        mourned.low,
+        mourned.high,
+        earlier.low,
+        earlier.high,
+    ];
+    *head = words;
+}
+
+// ---- the four words of a day
+
+// What they say: the kind, the count, and the places that have stopped.
+struct DayHead {
     kind: Kind,
     count: usize,
-    set: PlaceSet,
+    stopped: PlaceSet,
 }
 
 fn kind_of(word: u64) -> Kind
@@ -87,20 +153,20 @@ fn kind_of(word: u64) -> Kind
     Kind::Full
 }
 
-fn read_head(head: &[u64]) -> Head
+fn read_day_head(head: &[u64]) -> DayHead
     requires { ⌜ length (now head) ≡ 4 ⌝ }
     ensures { λ h. ⌜ h .kind ≡ kindIn (now (head .entry)) ⌝ }
     ensures { λ h. ⌜ h .count ≡ getD (now (head .entry)) 1 0 ⌝ }
-    ensures { λ h. ⌜ h .set ≡ setIn (now (head .entry)) ⌝ }
+    ensures { λ h. ⌜ h .stopped ≡ stoppedIn (now (head .entry)) ⌝ }
 {
-    let set = PlaceSet {
+    let stopped = PlaceSet {
         low: head[2],
         high: head[3],
     };
-    Head {
+    DayHead {
         kind: kind_of(head[0]),
         count: head[1] as usize,
-        set,
+        stopped,
     }
 }
 
@@ -113,33 +179,23 @@ fn kind_word(kind: Kind) -> u64
     }
 }
 
-fn write_head(head: &mut [u64; 4], kind: Kind, count: usize, set: PlaceSet)
-    ensures { λ r. ⌜ now (head .exit) ≡ headOf kind count set ⌝ }
+fn write_day_head(head: &mut [u64; 4], kind: Kind, count: usize, stopped: PlaceSet)
+    ensures { λ r. ⌜ now (head .exit) ≡ dayHeadOf kind count stopped ⌝ }
 {
     let word = kind_word(kind);
-    let words = [word, count as u64, set.low, set.high];
+    let words = [word, count as u64, stopped.low, stopped.high];
     *head = words;
 }
 
-// The two words of places alone.
-fn write_set(head: &mut [u64; 4], set: PlaceSet)
-    ensures { λ r. ⌜ now (head .exit) ≡ withSet (now (head .entry)) set ⌝ }
+// The two words of those that have stopped.
+fn write_stopped(head: &mut [u64; 4], stopped: PlaceSet)
+    ensures { λ r. ⌜ now (head .exit) ≡ withStopped (now (head .entry)) stopped ⌝ }
 {
-    let words = [head[0], head[1], set.low, set.high];
+    let words = [head[0], head[1], stopped.low, stopped.high];
     *head = words;
 }
 
 // ---- two words of places alone
-
-fn read_set(words: &[u64]) -> PlaceSet
-    requires { ⌜ length (now words) ≡ 2 ⌝ }
-    ensures { λ s. ⌜ s ≡ setAt (now (words .entry)) ⌝ }
-{
-    PlaceSet {
-        low: words[0],
-        high: words[1],
-    }
-}
 
 fn put_set(out: &mut [u64; 2], s: PlaceSet)
     ensures { λ r. ⌜ now (out .exit) ≡ setWords s ⌝ }
@@ -205,37 +261,41 @@ fn end_of(answer: Writing) -> End
 
 // ---- a recovery
 
-// Opens a recovery: 2, 3, 4, 5, or 0. Where it is refused, nothing is written.
+// Opens a recovery: 3, 4, 5, or 0. Where it is refused, nothing is written.
 #[no_mangle]
 pub extern "C" fn gm_open(
-    kind: u8,
     list: &[u32],
-    head: &mut [u64; 4],
-    mourned: &mut [u64; 2],
+    head: &mut [u64; 9],
     serials: &mut [u32; 128],
     seconds: &mut [u32; 128],
     rows: &mut [u8; 2048],
 ) -> u8
-    ensures { λ r. ⌜ r ≡ openedHeld kind (now (list .entry)) (now (head .entry)) (now (mourned .entry)) (now (serials .entry)) (now (seconds .entry)) (now (rows .entry)) .code ⌝ }
-    ensures { λ r. ⌜ now (head .exit) ≡ openedHeld kind (now (list .entry)) (now (head .entry)) (now (mourned .entry)) (now (serials .entry)) (now (seconds .entry)) (now (rows .entry)) .head ⌝ }
-    ensures { λ r. ⌜ now (mourned .exit) ≡ openedHeld kind (now (list .entry)) (now (head .entry)) (now (mourned .entry)) (now (serials .entry)) (now (seconds .entry)) (now (rows .entry)) .mourned ⌝ }
-    ensures { λ r. ⌜ now (serials .exit) ≡ openedHeld kind (now (list .entry)) (now (head .entry)) (now (mourned .entry)) (now (serials .entry)) (now (seconds .entry)) (now (rows .entry)) .serials ⌝ }
-    ensures { λ r. ⌜ now (seconds .exit) ≡ openedHeld kind (now (list .entry)) (now (head .entry)) (now (mourned .entry)) (now (serials .entry)) (now (seconds .entry)) (now (rows .entry)) .seconds ⌝ }
-    ensures { λ r. ⌜ now (rows .exit) ≡ openedHeld kind (now (list .entry)) (now (head .entry)) (now (mourned .entry)) (now (serials .entry)) (now (seconds .entry)) (now (rows .entry)) .rows ⌝ }
+    ensures { λ r. ⌜ r ≡ openedHeld (now (list .entry)) (now (head .entry)) (now (serials .entry)) (now (seconds .entry)) (now (rows .entry)) .code ⌝ }
+    ensures { λ r. ⌜ now (head .exit) ≡ openedHeld (now (list .entry)) (now (head .entry)) (now (serials .entry)) (now (seconds .entry)) (now (rows .entry)) .head ⌝ }
+    ensures { λ r. ⌜ now (serials .exit) ≡ openedHeld (now (list .entry)) (now (head .entry)) (now (serials .entry)) (now (seconds .entry)) (now (rows .entry)) .serials ⌝ }
+    ensures { λ r. ⌜ now (seconds .exit) ≡ openedHeld (now (list .entry)) (now (head .entry)) (now (serials .entry)) (now (seconds .entry)) (now (rows .entry)) .seconds ⌝ }
+    ensures { λ r. ⌜ now (rows .exit) ≡ openedHeld (now (list .entry)) (now (head .entry)) (now (serials .entry)) (now (seconds .entry)) (now (rows .entry)) .rows ⌝ }
 {
-    let opened = recovery::open(kind, list);
+    let opened = recovery::open(list);
     let answer = opened.answer;
     let r = opened.recovery;
-    let kind = r.kind;
     let returned = r.returned;
-    let named = r.mourned;
+    let full = r.full;
+    let mourned = r.mourned;
+    let earlier = r.earlier;
     let roster = r.serials;
     let others = r.seconds;
     let recorded = r.rows;
     match answer {
         Opening::Opened => {
-            write_head(head, kind, r.count, returned);
-            put_set(mourned, named);
+            let h = Head {
+                count: r.count,
+                returned,
+                full,
+                mourned,
+                earlier,
+            };
+            write_head(head, h);
             *serials = roster;
             *seconds = others;
             *rows = recorded;
@@ -245,28 +305,60 @@ pub extern "C" fn gm_open(
     }
 }
 
-// What a reply to the record of a place leaves, and its number: one that is taken is kept, and joins those named. Whatever the serials are.
+// The words with a place that is full: those that it mourns are earlier.
+fn mark_full(head: &mut [u64; 9], own: Place, row: PlaceSet)
+    ensures { λ r. ⌜ ((serials seconds rows : List ℕ) → now (head .exit) ≡ headOf (keepingFull (recoveryIn (now (head .entry)) serials seconds rows) (own .0) (has row))) ⌝ }
+{
+    let mut h = read_head(head);
+    let full = h.full;
+    h.full = places::with(full, own);
+    let earlier = h.earlier;
+    h.earlier = places::union(earlier, row);
+    write_head(head, h);
+}
+
+// The words with a place that is back: those that it mourns are mourned.
+fn mark_back(head: &mut [u64; 9], own: Place, row: PlaceSet)
+    ensures { λ r. ⌜ ((serials seconds rows : List ℕ) → now (head .exit) ≡ headOf (keepingRow (recoveryIn (now (head .entry)) serials seconds rows) (own .0) (has row))) ⌝ }
+{
+    let mut h = read_head(head);
+    let returned = h.returned;
+    h.returned = places::with(returned, own);
+    let mourned = h.mourned;
+    h.mourned = places::union(mourned, row);
+    write_head(head, h);
+}
+
+// The words with the record of a place, as taking it leaves them. Whatever the serials and the rows are.
+fn mark(head: &mut [u64; 9], own: Place, kind: Kind, row: PlaceSet)
+    ensures { λ r. ⌜ ((serials seconds rows : List ℕ) → now (head .exit) ≡ headOf (keeping (recoveryIn (now (head .entry)) serials seconds rows) (own .0) kind (has row))) ⌝ }
+{
+    match kind {
+        Kind::Full => {
+            mark_full(head, own, row);
+            mark_back(head, own, row);
+        }
+        Kind::Short => mark_back(head, own, row),
+    }
+}
+
+// What a reply to the record of a place leaves, and its number: one that is taken is kept. Whatever the serials are.
 fn answer_with(
-    head: &mut [u64; 4],
-    mourned: &mut [u64; 2],
+    head: &mut [u64; 9],
     rows: &mut [u8; 2048],
-    named: PlaceSet,
     own: Place,
+    kind: Kind,
     row: PlaceSet,
     reply: Reply,
 ) -> u8
-    requires { ⌜ (length (now mourned) ≡ 2) × (named ≡ setAt (now mourned)) ⌝ }
+    requires { ⌜ length (now head) ≡ 9 ⌝ }
     ensures { λ r. ⌜ r ≡ replyCode reply ⌝ }
-    ensures { λ r. ⌜ ((serials seconds : List ℕ) → now (head .exit) ≡ withSet (now (head .entry)) (answered (recoveryIn (now (head .entry)) (now (mourned .entry)) serials seconds (now (rows .entry))) (own .0) (has row) reply .recovery .returned)) ⌝ }
-    ensures { λ r. ⌜ ((serials seconds : List ℕ) → now (mourned .exit) ≡ setWords (answered (recoveryIn (now (head .entry)) (now (mourned .entry)) serials seconds (now (rows .entry))) (own .0) (has row) reply .recovery .mourned)) ⌝ }
-    ensures { λ r. ⌜ ((serials seconds : List ℕ) → now (rows .exit) ≡ answered (recoveryIn (now (head .entry)) (now (mourned .entry)) serials seconds (now (rows .entry))) (own .0) (has row) reply .recovery .rows) ⌝ }
+    ensures { λ r. ⌜ ((serials seconds : List ℕ) → now (head .exit) ≡ headOf (answered (recoveryIn (now (head .entry)) serials seconds (now (rows .entry))) (own .0) kind (has row) reply .recovery)) ⌝ }
+    ensures { λ r. ⌜ ((serials seconds : List ℕ) → now (rows .exit) ≡ answered (recoveryIn (now (head .entry)) serials seconds (now (rows .entry))) (own .0) kind (has row) reply .recovery .rows) ⌝ }
 {
-    let h = read_head(head);
-    let returned = h.set;
     match reply {
         Reply::Taken => {
-            write_set(head, places::with(returned, own));
-            put_set(mourned, places::union(named, row));
+            mark(head, own, kind, row);
             rows::set(rows, own, row);
             0
         }
@@ -278,29 +370,27 @@ fn answer_with(
 // Offers a lone record: 1 to 11, 32 for repeated, or 0 for taken.
 #[no_mangle]
 pub extern "C" fn gm_offer<'a>(
-    head: &mut [u64; 4],
-    mourned: &mut [u64; 2],
+    head: &mut [u64; 9],
     serials: &'a [u32; 128],
     seconds: &'a [u32; 128],
     rows: &mut [u8; 2048],
     bytes: &[u8],
 ) -> u8
-    ensures { λ r. ⌜ r ≡ offeredHeld (now (head .entry)) (now (mourned .entry)) (now (serials .entry)) (now (seconds .entry)) (now (rows .entry)) (now (bytes .entry)) .code ⌝ }
-    ensures { λ r. ⌜ now (head .exit) ≡ offeredHeld (now (head .entry)) (now (mourned .entry)) (now (serials .entry)) (now (seconds .entry)) (now (rows .entry)) (now (bytes .entry)) .head ⌝ }
-    ensures { λ r. ⌜ now (mourned .exit) ≡ offeredHeld (now (head .entry)) (now (mourned .entry)) (now (serials .entry)) (now (seconds .entry)) (now (rows .entry)) (now (bytes .entry)) .mourned ⌝ }
-    ensures { λ r. ⌜ now (rows .exit) ≡ offeredHeld (now (head .entry)) (now (mourned .entry)) (now (serials .entry)) (now (seconds .entry)) (now (rows .entry)) (now (bytes .entry)) .rows ⌝ }
+    ensures { λ r. ⌜ r ≡ offeredHeld (now (head .entry)) (now (serials .entry)) (now (seconds .entry)) (now (rows .entry)) (now (bytes .entry)) .code ⌝ }
+    ensures { λ r. ⌜ now (head .exit) ≡ offeredHeld (now (head .entry)) (now (serials .entry)) (now (seconds .entry)) (now (rows .entry)) (now (bytes .entry)) .head ⌝ }
+    ensures { λ r. ⌜ now (rows .exit) ≡ offeredHeld (now (head .entry)) (now (serials .entry)) (now (seconds .entry)) (now (rows .entry)) (now (bytes .entry)) .rows ⌝ }
 {
     let h = read_head(head);
-    let kind = h.kind;
-    let returned = h.set;
-    let named = read_set(mourned);
+    let returned = h.returned;
+    let full = h.full;
     let got = groups::read_lone(h.count, serials, seconds, bytes);
     match got {
         Reading::Read(x) => {
-            let reply = replies::judge(kind, h.count, serials, returned, rows, bytes, x);
+            let reply = replies::judge(h.count, serials, returned, full, rows, bytes, x);
             let own = x.own;
+            let kind = x.kind;
             let row = x.mourned;
-            answer_with(head, mourned, rows, named, own, row, reply)
+            answer_with(head, rows, own, kind, row, reply)
         }
         Reading::Refused(fault) => fault,
     }
@@ -308,19 +398,20 @@ pub extern "C" fn gm_offer<'a>(
 
 // Asks for a place: 12, 33 last, 34 not last, 35 open. Whatever the serials are.
 #[no_mangle]
-pub extern "C" fn gm_ask(head: &[u64; 4], mourned: &[u64; 2], rows: &[u8; 2048], place: usize) -> u8
-    ensures { λ r. ⌜ ((serials seconds : List ℕ) → r ≡ askedCode (asked (recoveryIn (now (head .entry)) (now (mourned .entry)) serials seconds (now (rows .entry))) place)) ⌝ }
+pub extern "C" fn gm_ask(head: &[u64; 9], rows: &[u8; 2048], place: usize) -> u8
+    ensures { λ r. ⌜ ((serials seconds : List ℕ) → r ≡ askedCode (asked (recoveryIn (now (head .entry)) serials seconds (now (rows .entry))) place)) ⌝ }
 {
     let h = read_head(head);
-    let kind = h.kind;
-    let returned = h.set;
+    let returned = h.returned;
+    let full = h.full;
+    let mourned = h.mourned;
+    let earlier = h.earlier;
     let count = h.count;
-    let named = read_set(mourned);
     let n = answers::size(count);
     if n <= place {
         return 12;
     }
-    let answer = answers::answer_for(kind, rows, returned, named, count, Place(place));
+    let answer = answers::answer_for(rows, returned, full, mourned, earlier, count, Place(place));
     match answer {
         Answer::Last => 33,
         Answer::NotLast => 34,
@@ -330,61 +421,59 @@ pub extern "C" fn gm_ask(head: &[u64; 4], mourned: &[u64; 2], rows: &[u8; 2048],
 
 // Whether no place is open: 1 or 0. Whatever the serials are.
 #[no_mangle]
-pub extern "C" fn gm_settled(head: &[u64; 4], mourned: &[u64; 2], rows: &[u8; 2048]) -> u8
-    ensures { λ r. ⌜ ((serials seconds : List ℕ) → r ≡ yesCode (settledOf (recoveryIn (now (head .entry)) (now (mourned .entry)) serials seconds (now (rows .entry))))) ⌝ }
+pub extern "C" fn gm_settled(head: &[u64; 9], rows: &[u8; 2048]) -> u8
+    ensures { λ r. ⌜ ((serials seconds : List ℕ) → r ≡ yesCode (settledOf (recoveryIn (now (head .entry)) serials seconds (now (rows .entry))))) ⌝ }
 {
     let h = read_head(head);
-    let kind = h.kind;
-    let returned = h.set;
+    let returned = h.returned;
+    let full = h.full;
+    let mourned = h.mourned;
+    let earlier = h.earlier;
     let count = h.count;
-    let named = read_set(mourned);
-    let settled = answers::settled(kind, rows, returned, named, count);
+    let settled = answers::settled(rows, returned, full, mourned, earlier, count);
     yes_code(settled)
 }
 
 // The unmourned places, as two words. Whatever the serials and the rows are.
 #[no_mangle]
-pub extern "C" fn gm_unmourned(head: &[u64; 4], mourned: &[u64; 2], out: &mut [u64; 2])
-    ensures { λ r. ⌜ ((serials seconds rows : List ℕ) → now (out .exit) ≡ wordsOf (unmournedOf (recoveryIn (now (head .entry)) (now (mourned .entry)) serials seconds rows))) ⌝ }
+pub extern "C" fn gm_unmourned(head: &[u64; 9], out: &mut [u64; 2])
+    ensures { λ r. ⌜ ((serials seconds rows : List ℕ) → now (out .exit) ≡ wordsOf (unmournedOf (recoveryIn (now (head .entry)) serials seconds rows))) ⌝ }
 {
     let h = read_head(head);
-    let named = read_set(mourned);
-    let all = answers::unmourned(named, h.count);
+    let all = answers::unmourned(h.mourned, h.count);
     put_set(out, all);
 }
 
 // The unmourned places that are absent, as two words. Whatever the serials and the rows are.
 #[no_mangle]
-pub extern "C" fn gm_unmourned_absent(head: &[u64; 4], mourned: &[u64; 2], out: &mut [u64; 2])
-    ensures { λ r. ⌜ ((serials seconds rows : List ℕ) → now (out .exit) ≡ wordsOf (unmournedAbsentOf (recoveryIn (now (head .entry)) (now (mourned .entry)) serials seconds rows))) ⌝ }
+pub extern "C" fn gm_unmourned_absent(head: &[u64; 9], out: &mut [u64; 2])
+    ensures { λ r. ⌜ ((serials seconds rows : List ℕ) → now (out .exit) ≡ wordsOf (unmournedAbsentOf (recoveryIn (now (head .entry)) serials seconds rows))) ⌝ }
 {
     let h = read_head(head);
-    let returned = h.set;
-    let named = read_set(mourned);
-    let all = answers::unmourned(named, h.count);
+    let returned = h.returned;
+    let all = answers::unmourned(h.mourned, h.count);
     let absent = places::difference(all, returned);
     put_set(out, absent);
 }
 
 // How many are unmourned. Whatever the serials and the rows are.
 #[no_mangle]
-pub extern "C" fn gm_unmourned_count(head: &[u64; 4], mourned: &[u64; 2]) -> usize
-    ensures { λ r. ⌜ ((serials seconds rows : List ℕ) → r ≡ unmournedCountOf (recoveryIn (now (head .entry)) (now (mourned .entry)) serials seconds rows)) ⌝ }
+pub extern "C" fn gm_unmourned_count(head: &[u64; 9]) -> usize
+    ensures { λ r. ⌜ ((serials seconds rows : List ℕ) → r ≡ unmournedCountOf (recoveryIn (now (head .entry)) serials seconds rows)) ⌝ }
 {
     let h = read_head(head);
-    let named = read_set(mourned);
-    let all = answers::unmourned(named, h.count);
+    let all = answers::unmourned(h.mourned, h.count);
     places::count(all)
 }
 
-// Checks a lent history: 13, 15, 37 fits, 38 fits not. Whatever the mourned places and the serials are.
+// Checks a lent history: 13, 15, 37 fits, 38 fits not. Whatever the serials are.
 #[no_mangle]
-pub extern "C" fn gm_check(head: &[u64; 4], rows: &[u8; 2048], history: &[u8]) -> u8
-    ensures { λ r. ⌜ ((mourned serials seconds : List ℕ) → r ≡ checkedCode (checked (recoveryIn (now (head .entry)) mourned serials seconds (now (rows .entry))) (now (history .entry)))) ⌝ }
+pub extern "C" fn gm_check(head: &[u64; 9], rows: &[u8; 2048], history: &[u8]) -> u8
+    ensures { λ r. ⌜ ((serials seconds : List ℕ) → r ≡ checkedCode (checked (recoveryIn (now (head .entry)) serials seconds (now (rows .entry))) (now (history .entry)))) ⌝ }
 {
     let h = read_head(head);
-    let kind = h.kind;
-    let returned = h.set;
+    let returned = h.returned;
+    let full = h.full;
     let count = h.count;
     let n = answers::size(count);
     if history.len() < 16 * n {
@@ -393,7 +482,7 @@ pub extern "C" fn gm_check(head: &[u64; 4], rows: &[u8; 2048], history: &[u8]) -
     if checks::off_roster(history, count) {
         return 15;
     }
-    if checks::fits(kind, rows, returned, count, history) {
+    if checks::fits(rows, returned, full, count, history) {
         return 37;
     }
     38
@@ -402,27 +491,28 @@ pub extern "C" fn gm_check(head: &[u64; 4], rows: &[u8; 2048], history: &[u8]) -
 // Shows two histories that fit and differ on a place: 12, 36 decided, 13, or 0 and both laid down. Whatever the serials are.
 #[no_mangle]
 pub extern "C" fn gm_show(
-    head: &[u64; 4],
-    mourned: &[u64; 2],
+    head: &[u64; 9],
     rows: &[u8; 2048],
     place: usize,
     first: &mut [u8],
     second: &mut [u8],
 ) -> u8
-    ensures { λ r. ⌜ ((serials seconds : List ℕ) → r ≡ showingCode (shown (recoveryIn (now (head .entry)) (now (mourned .entry)) serials seconds (now (rows .entry))) place (now (first .entry)) (now (second .entry)) .answer)) ⌝ }
-    ensures { λ r. ⌜ ((serials seconds : List ℕ) → now (first .exit) ≡ shown (recoveryIn (now (head .entry)) (now (mourned .entry)) serials seconds (now (rows .entry))) place (now (first .entry)) (now (second .entry)) .first) ⌝ }
-    ensures { λ r. ⌜ ((serials seconds : List ℕ) → now (second .exit) ≡ shown (recoveryIn (now (head .entry)) (now (mourned .entry)) serials seconds (now (rows .entry))) place (now (first .entry)) (now (second .entry)) .second) ⌝ }
+    ensures { λ r. ⌜ ((serials seconds : List ℕ) → r ≡ showingCode (shown (recoveryIn (now (head .entry)) serials seconds (now (rows .entry))) place (now (first .entry)) (now (second .entry)) .answer)) ⌝ }
+    ensures { λ r. ⌜ ((serials seconds : List ℕ) → now (first .exit) ≡ shown (recoveryIn (now (head .entry)) serials seconds (now (rows .entry))) place (now (first .entry)) (now (second .entry)) .first) ⌝ }
+    ensures { λ r. ⌜ ((serials seconds : List ℕ) → now (second .exit) ≡ shown (recoveryIn (now (head .entry)) serials seconds (now (rows .entry))) place (now (first .entry)) (now (second .entry)) .second) ⌝ }
 {
     let h = read_head(head);
-    let kind = h.kind;
-    let returned = h.set;
+    let returned = h.returned;
+    let full = h.full;
+    let mourned = h.mourned;
+    let earlier = h.earlier;
     let count = h.count;
-    let named = read_set(mourned);
     let answer = shows::show(
-        kind,
         rows,
         returned,
-        named,
+        full,
+        mourned,
+        earlier,
         count,
         Place(place),
         first,
@@ -431,33 +521,33 @@ pub extern "C" fn gm_show(
     showing_code(answer)
 }
 
-// The place of a serial, and which of the place's two it is: 39 the first, 40 the second; 41 and place 128 where it is not found. Whatever the
-// mourned places and the rows are.
+// The place of a serial, and which of the place's two it is: 39 the first, 40 the second; 41 and place 128 where it is not found.
+// Whatever the rows are.
 #[no_mangle]
 pub extern "C" fn gm_find<'a>(
-    head: &[u64; 4],
+    head: &[u64; 9],
     serials: &'a [u32; 128],
     seconds: &'a [u32; 128],
     serial: u32,
 ) -> FoundNow
-    ensures { λ r. ⌜ ((mourned rows : List ℕ) → r ≡ foundOf (foundIn (recoveryIn (now (head .entry)) mourned (now (serials .entry)) (now (seconds .entry)) rows) serial)) ⌝ }
+    ensures { λ r. ⌜ ((rows : List ℕ) → r ≡ foundOf (foundIn (recoveryIn (now (head .entry)) (now (serials .entry)) (now (seconds .entry)) rows) serial)) ⌝ }
 {
     let h = read_head(head);
     let found = groups::find(h.count, serials, seconds, Serial(serial));
     found_now(found)
 }
 
-// Gives a place a second serial: 12, 4, 16, or 0. Whatever the mourned places and the rows are.
+// Gives a place a second serial: 12, 4, 16, or 0. Whatever the rows are.
 #[no_mangle]
 pub extern "C" fn gm_give(
-    head: &[u64; 4],
+    head: &[u64; 9],
     serials: &[u32; 128],
     seconds: &mut [u32; 128],
     place: usize,
     serial: u32,
 ) -> u8
-    ensures { λ r. ⌜ ((mourned rows : List ℕ) → r ≡ givingCode (given (recoveryIn (now (head .entry)) mourned (now (serials .entry)) (now (seconds .entry)) rows) place serial .answer)) ⌝ }
-    ensures { λ r. ⌜ ((mourned rows : List ℕ) → now (seconds .exit) ≡ given (recoveryIn (now (head .entry)) mourned (now (serials .entry)) (now (seconds .entry)) rows) place serial .recovery .seconds) ⌝ }
+    ensures { λ r. ⌜ ((rows : List ℕ) → r ≡ givingCode (given (recoveryIn (now (head .entry)) (now (serials .entry)) (now (seconds .entry)) rows) place serial .answer)) ⌝ }
+    ensures { λ r. ⌜ ((rows : List ℕ) → now (seconds .exit) ≡ given (recoveryIn (now (head .entry)) (now (serials .entry)) (now (seconds .entry)) rows) place serial .recovery .seconds) ⌝ }
 {
     let h = read_head(head);
     let answer = groups::may_give(h.count, serials, seconds, Place(place), Serial(serial));
@@ -472,7 +562,7 @@ pub extern "C" fn gm_give(
 
 // Writes the record of a returned place: 12, 14, 13, or where it ends.
 fn write_back(
-    head: &[u64; 4],
+    head: &[u64; 9],
     serials: &[u32],
     rows: &[u8; 2048],
     place: Place,
@@ -480,12 +570,12 @@ fn write_back(
     at: usize,
 ) -> Writing
     requires { ⌜ length (now serials) ≡ 128 ⌝ }
-    ensures { λ r. ⌜ ((mourned seconds : List ℕ) → r ≡ writtenOf (recoveryIn (now (head .entry)) mourned (now (serials .entry)) seconds (now (rows .entry))) (place .0) (now (out .entry)) at .answer) ⌝ }
-    ensures { λ r. ⌜ ((mourned seconds : List ℕ) → now (out .exit) ≡ writtenOf (recoveryIn (now (head .entry)) mourned (now (serials .entry)) seconds (now (rows .entry))) (place .0) (now (out .entry)) at .buffer) ⌝ }
+    ensures { λ r. ⌜ ((seconds : List ℕ) → r ≡ writtenOf (recoveryIn (now (head .entry)) (now (serials .entry)) seconds (now (rows .entry))) (place .0) (now (out .entry)) at .answer) ⌝ }
+    ensures { λ r. ⌜ ((seconds : List ℕ) → now (out .exit) ≡ writtenOf (recoveryIn (now (head .entry)) (now (serials .entry)) seconds (now (rows .entry))) (place .0) (now (out .entry)) at .buffer) ⌝ }
 {
     let h = read_head(head);
-    let kind = h.kind;
-    let returned = h.set;
+    let returned = h.returned;
+    let full = h.full;
     let n = answers::size(h.count);
     if n <= place.0 {
         return Writing::Refused(12);
@@ -493,6 +583,7 @@ fn write_back(
     if !places::contains(returned, place) {
         return Writing::Refused(14);
     }
+    let kind = answers::kind_of(full, place);
     let row = answers::recorded(rows, returned, h.count, place);
     writes::write(kind, place, &serials[..n], row, out, at)
 }
@@ -500,15 +591,15 @@ fn write_back(
 // Writes the record of a returned place into a lent buffer from a position on: 12, 14, 13, or 0 and where it ends.
 #[no_mangle]
 pub extern "C" fn gm_write(
-    head: &[u64; 4],
+    head: &[u64; 9],
     serials: &[u32; 128],
     rows: &[u8; 2048],
     place: usize,
     out: &mut [u8],
     at: usize,
 ) -> End
-    ensures { λ r. ⌜ ((mourned seconds : List ℕ) → r ≡ endOf (writtenOf (recoveryIn (now (head .entry)) mourned (now (serials .entry)) seconds (now (rows .entry))) place (now (out .entry)) at .answer)) ⌝ }
-    ensures { λ r. ⌜ ((mourned seconds : List ℕ) → now (out .exit) ≡ writtenOf (recoveryIn (now (head .entry)) mourned (now (serials .entry)) seconds (now (rows .entry))) place (now (out .entry)) at .buffer) ⌝ }
+    ensures { λ r. ⌜ ((seconds : List ℕ) → r ≡ endOf (writtenOf (recoveryIn (now (head .entry)) (now (serials .entry)) seconds (now (rows .entry))) place (now (out .entry)) at .answer)) ⌝ }
+    ensures { λ r. ⌜ ((seconds : List ℕ) → now (out .exit) ≡ writtenOf (recoveryIn (now (head .entry)) (now (serials .entry)) seconds (now (rows .entry))) place (now (out .entry)) at .buffer) ⌝ }
 {
     let answer = write_back(head, serials, rows, Place(place), out, at);
     end_of(answer)
@@ -604,8 +695,8 @@ pub extern "C" fn gm_write_record(
     out: &mut [u8],
     at: usize,
 ) -> End
-    ensures { λ r. ⌜ r ≡ endOf (writtenParts kind own (now (roster .entry)) (has (setAt (now (mourned .entry)))) (now (out .entry)) at .answer) ⌝ }
-    ensures { λ r. ⌜ now (out .exit) ≡ writtenParts kind own (now (roster .entry)) (has (setAt (now (mourned .entry)))) (now (out .entry)) at .buffer ⌝ }
+    ensures { λ r. ⌜ r ≡ endOf (writtenParts kind own (now (roster .entry)) (has (setAt (now (mourned .entry)) 0)) (now (out .entry)) at .answer) ⌝ }
+    ensures { λ r. ⌜ now (out .exit) ≡ writtenParts kind own (now (roster .entry)) (has (setAt (now (mourned .entry)) 0)) (now (out .entry)) at .buffer ⌝ }
 {
     let set = PlaceSet {
         low: mourned[0],
@@ -646,7 +737,7 @@ pub extern "C" fn gm_day_open(
     let unheard = d.rows;
     match answer {
         executions::Opening::Opened => {
-            write_head(head, kind, d.count, stopped);
+            write_day_head(head, kind, d.count, stopped);
             *serials = all;
             *rows = unheard;
             0
@@ -659,9 +750,9 @@ pub extern "C" fn gm_day_open(
 fn day_in(head: &[u64; 4], serials: &[u32; 128], rows: &[u8; 2048]) -> Day
     ensures { λ d. ⌜ d ≡ dayIn (now (head .entry)) (now (serials .entry)) (now (rows .entry)) ⌝ }
 {
-    let h = read_head(head);
+    let h = read_day_head(head);
     let kind = h.kind;
-    let stopped = h.set;
+    let stopped = h.stopped;
     let all = *serials;
     let heard = *rows;
     Day {
@@ -697,7 +788,7 @@ pub extern "C" fn gm_day_event(
     let after = happened.day;
     let stopped = after.stopped;
     let heard = after.rows;
-    write_set(head, stopped);
+    write_stopped(head, stopped);
     *rows = heard;
     happened.refusal
 }
@@ -748,7 +839,7 @@ fn day_now(d: DayNow, after: Day) -> DayNow
     let serials = d.serials;
     let rows = after.rows;
     let stopped = after.stopped;
-    write_set(&mut head, stopped);
+    write_stopped(&mut head, stopped);
     DayNow {
         head,
         serials,

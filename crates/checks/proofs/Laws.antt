@@ -1,40 +1,28 @@
 -- What the check's functions say of the definitions: a law for each loop's step and for each return. Sets only by their members.
 -- Assumes nothing.
 use mathlib.Core.Path.{_≡_, refl, sym, ap, ap₂, _∙_, fun-ext}
-use mathlib.Core.Bool.{Bool, true, false, not, _&&_, _||_, and-true, and-false, or-true, Bool·not-not}
+use mathlib.Core.Bool.{Bool, true, false, not, cond, _&&_, _||_, and-true, and-false, Bool·not-not}
+use mathlib.Core.Logic.{_⊎_, inl, inr}
 use mathlib.Core.List.{List}
 use Prim.Native.Nat.{ℕ, zero, suc, _+_, _*_, _<_, _≤_}
 use native.Mathlib.Omega.{arith}
 use native.Mathlib.Numerals.{add-one}
-use native.Mathlib.Decide.{ℕ-discrete}
-use lib.Dec.{leb, ltb, eqb}
-use borrow.Author.Tests.{ltb-true, ltb-false, lt-ltb, le-leb, lt-leb, ne-eqb}
-use Rattle.places.specs.Sets.{Places, nothing, below, union, intersection, difference, without, any, all, subset, same}
+use lib.Dec.{leb, ltb}
+use borrow.Author.Tests.{ltb-true, ltb-false, lt-ltb, le-leb, lt-leb, eqb-true}
+use Rattle.places.specs.Sets.{Places, nothing, only, below, union, intersection, difference, without, any, all, subset, same}
 use Rattle.places.specs.PlaceSets.{has, kept}
 use Rattle.places.specs.declared.PlaceSet.{PlaceSet}
-use Rattle.places.proofs.Booleans.{clash, is-false, both-ways, and-intro, and-left, and-right}
+use Rattle.places.proofs.Booleans.{clash, split, is-false, both-ways, and-intro, and-left, and-right, implies-intro, minus-elim, minus-intro}
 use Rattle.places.proofs.Tests.{any-elim, any-intro, all-elim, all-intro, subset-elim, subset-intro, same-elim, same-intro}
 use Rattle.rows.specs.Rows.{rowAt, rowsOf, rowIn, historyIn}
 use Rattle.rows.proofs.Laws.{has-row}
-use Rattle.histories.specs.declared.Kind.{Kind}
 use Rattle.histories.specs.declared.Kind.the-variants.{Full, Short}
 use Rattle.histories.specs.Histories.{History}
-use Rattle.histories.specs.Rule.{reach, closedRows, fitsTest}
-use Rattle.answers.specs.Views.{size, acceptedIn}
+use Rattle.histories.specs.Rule.{reach, isFull, fullBack, dutyMet, fitsTest}
+use Rattle.answers.specs.Views.{size, kindIn, acceptedIn}
 use Rattle.checks.specs.Checks.{offRoster}
 
--- ---- loops that end at the first place where a test fails
-
-pub all-start : (S : Places) → all 0 S ≡ true
-unfolding all
-all-start S = refl
-
-pub all-next : (p : ℕ) (S : Places) → S p ≡ true → all p S ≡ true → all (p + 1) S ≡ true
-unfolding all
-all-next p S e h = rw (add-one, e) h
-
-pub all-end : (p n : ℕ) (S : Places) → p ≤ n → n ≤ p → all p S ≡ true → true ≡ all n S
-all-end p n S a b e = let q : p ≡ n = omega arith in sym (rw q at e)
+-- ---- tests of the places below n
 
 pub all-not : (n : ℕ) (S : Places) (p : ℕ) → p < n → S p ≡ false → all n S ≡ false
 all-not n S p l e = is-false (all n S) (λ t. clash (all-elim n S t p l) e)
@@ -45,7 +33,7 @@ unfolding any
 any-same zero A B h = refl
 any-same (suc n) A B h = ap₂ _||_ (h n (omega arith)) (any-same n A B (λ k l. h k (omega arith)))
 
-pub all-same : (n : ℕ) (A B : Places) → ((k : ℕ) → k < n → A k ≡ B k) → all n A ≡ all n B
+all-same : (n : ℕ) (A B : Places) → ((k : ℕ) → k < n → A k ≡ B k) → all n A ≡ all n B
 unfolding all
 all-same zero A B h = refl
 all-same (suc n) A B h = ap₂ _&&_ (h n (omega arith)) (all-same n A B (λ k l. h k (omega arith)))
@@ -64,8 +52,12 @@ pub lent-on : (n : ℕ) (b : List ℕ) (p q : ℕ) → historyIn n b p q ≡ tru
 unfolding historyIn
 lent-on n b p q e = ltb-true p n (and-left (ltb p n) (rowIn b (16 * p) q) e)
 
-pub holds-is : (S : Places) (q : ℕ) (r : PlaceSet) (b : Bool) → has r ≡ S → b ≡ has r q → b ≡ S q
-holds-is S q r b e h = h ∙ ap (λ (S : Places). S q) e
+-- a set where a test holds, else nothing
+pub all-spared : (b x : Bool) (S : Places) → x ≡ b → x ≡ true → S ≡ (λ q. b && S q)
+all-spared b x S e h = fun-ext (λ q. rw (sym e ∙ h))
+
+pub none-spared : (b x : Bool) (S N : Places) → x ≡ b → x ≡ false → N ≡ nothing → N ≡ (λ q. b && S q)
+none-spared b x S N e h z = z ∙ fun-ext (λ q. rw (sym e ∙ h))
 
 -- ---- a place off the roster
 
@@ -170,59 +162,79 @@ module _ (n : ℕ) (small : n ≤ 128) (A B R : Places) (cut : R ≡ kept (below
     pub subset-is : x ≡ subset 128 (has lent) (has b) → x ≡ subset n A B
     subset-is h = h ∙ ap₂ (subset 128) (el ∙ ap₂ intersection ea er) eb ∙ subset-cut
 
--- ---- a test of each member of S on the roster: those that were not tested yet are left
-
--- all members of S on the roster pass the test T
-abbrev pub each : ℕ → Places → Places → Bool
-each n T S = all n (λ m. not (S m) || T m)
-
--- members of the roster are left, and they decide
-pub record Left (n : ℕ) (T S : Places) (left : PlaceSet) : Type 0 where
-  pub on : (k : ℕ) → has left k ≡ true → k < n
-  pub decides : each n T (has left) ≡ each n T S
-
 -- a set cut to the roster, by its members
-pub cut-at : (n : ℕ) (s left roster : PlaceSet) → n ≤ 128 → has roster ≡ kept (below n) → has left ≡ intersection (has s) (has roster) → (k : ℕ) → k < n → has left k ≡ has s k
-cut-at n s left roster l er el k h = ap (λ (S : Places). S k) el ∙ ap (λ (x : Bool). has s k && x) (inside n l (has s) (has s) (has roster) er k h) ∙ and-true (has s k)
+module _ (n : ℕ) (s left roster : PlaceSet) (small : n ≤ 128) (er : has roster ≡ kept (below n)) (el : has left ≡ intersection (has s) (has roster)) where
+  pub cut-at : (k : ℕ) → k < n → has left k ≡ has s k
+  cut-at k h = ap (λ (S : Places). S k) el ∙ ap (λ (x : Bool). has s k && x) (inside n small (has s) (has s) (has roster) er k h) ∙ and-true (has s k)
 
-pub cut-on : (n : ℕ) (s left roster : PlaceSet) → n ≤ 128 → has roster ≡ kept (below n) → has left ≡ intersection (has s) (has roster) → (k : ℕ) → has left k ≡ true → k < n
-cut-on n s left roster l er el k h = below-n n l (has s) (has s) (has roster) er k (and-right (has s k) (has roster k) (sym (ap (λ (S : Places). S k) el) ∙ h))
+  pub cut-on : (k : ℕ) → has left k ≡ true → k < n
+  cut-on k h = below-n n small (has s) (has s) (has roster) er k (and-right (has s k) (has roster k) (sym (ap (λ (S : Places). S k) el) ∙ h))
 
-module _ (n : ℕ) (T S : Places) where
-  pub left-start : (s left roster : PlaceSet) → n ≤ 128 → has s ≡ S → has roster ≡ kept (below n) → has left ≡ intersection (has s) (has roster) → Left n T S left
-  left-start s left roster l e er el = record {
-    on = cut-on n s left roster l er el;
-    decides = all-same n (λ m. not (has left m) || T m) (λ m. not (S m) || T m) (λ k h. ap (λ (x : Bool). not x || T k) (same-at k h));
+-- ---- a loop over the members of S on the roster: those whose turn is to come are left, and the others have P
+
+pub record Turns (n : ℕ) (S : Places) (P : ℕ → Type 0) (left : PlaceSet) : Type 0 where
+  pub on : (m : ℕ) → has left m ≡ true → (m < n) × (S m ≡ true)
+  pub done : (m : ℕ) → m < n → S m ≡ true → has left m ≡ false → P m
+
+module _ (n : ℕ) (S : Places) (P : ℕ → Type 0) where
+  pub turns-start : (s left roster : PlaceSet) → n ≤ 128 → has s ≡ S → has roster ≡ kept (below n) → has left ≡ intersection (has s) (has roster) → Turns n S P left
+  turns-start s left roster l e er el = record {
+    on = λ m h. let k = cut-on n s left roster l er el m h in (k, sym (at m k) ∙ h);
+    done = λ m k a h. clash (at m k ∙ a) h;
   }
     where
-      same-at : (k : ℕ) → k < n → has left k ≡ S k
-      same-at k h = cut-at n s left roster l er el k h ∙ ap (λ (S : Places). S k) e
+      at : (m : ℕ) → m < n → has left m ≡ S m
+      at m k = cut-at n s left roster l er el m k ∙ ap (λ (S : Places). S m) e
 
-  module _ (left : PlaceSet) (h : Left n T S left) where
-    pub left-next : (rest : PlaceSet) (m : ℕ) → T m ≡ true → has rest ≡ without m (has left) → Left n T S rest
-    left-next rest m e er = record {
-      on = λ k x. h .on k (and-left (has left k) (not (eqb k m)) (sym (at k) ∙ x));
-      decides = all-same n (λ k. not (has rest k) || T k) (λ k. not (has left k) || T k) (λ k _. go k (ℕ-discrete k m)) ∙ h .decides;
+  module _ (left : PlaceSet) (t : Turns n S P left) where
+    -- the members of `out` had their turn
+    pub turns-fewer : (out : Places) (rest : PlaceSet) → ((m : ℕ) → m < n → S m ≡ true → out m ≡ true → P m) → has rest ≡ difference (has left) out → Turns n S P rest
+    turns-fewer out rest x e = record {
+      on = λ m h. t .on m (minus-elim (has left m) (out m) (sym (at m) ∙ h) .0);
+      done = λ m k a h. go m k a h (split (out m));
     }
       where
-        at : (k : ℕ) → has rest k ≡ has left k && not (eqb k m)
-        at k = ap (λ (S : Places). S k) er
+        at : (m : ℕ) → has rest m ≡ has left m && not (out m)
+        at m = ap (λ (S : Places). S m) e
 
-        go : (k : ℕ) → Dec (k ≡ m) → not (has rest k) || T k ≡ not (has left k) || T k
-        go k (yes q) = rw (q, e) (or-true (not (has rest m)) ∙ sym (or-true (not (has left m))))
-        go k (no d) = ap (λ (x : Bool). not x || T k) (at k ∙ ap (λ (x : Bool). has left k && not x) (ne-eqb k m d) ∙ and-true (has left k))
+        go : (m : ℕ) → m < n → S m ≡ true → has rest m ≡ false → (out m ≡ true) ⊎ (out m ≡ false) → P m
+        go m k a h (inl o) = x m k a o
+        go m k a h (inr o) = t .done m k a (is-false (has left m) (λ y. clash (at m ∙ minus-intro y o) h))
 
-    pub left-end : n ≤ 128 → ((k : ℕ) → k < 128 → has left k ≡ false) → true ≡ each n T S
-    left-end l e = sym (all-intro n (λ m. not (has left m) || T m) (λ k b. rw (e k (omega arith)))) ∙ h .decides
+    -- m had its turn
+    pub turns-next : (m : ℕ) (rest : PlaceSet) → P m → has rest ≡ without m (has left) → Turns n S P rest
+    turns-next m rest x e = turns-fewer (only m) rest (λ q _ _ h. rw (eqb-true q m h) x) e
 
-    pub left-not : (m : ℕ) → has left m ≡ true → T m ≡ false → false ≡ each n T S
-    left-not m e f = sym (all-not n (λ m. not (has left m) || T m) m (h .on m e) (rw (e, f))) ∙ h .decides
+    -- nobody is left
+    pub turns-end : n ≤ 128 → ((k : ℕ) → k < 128 → has left k ≡ false) → (m : ℕ) → m < n → S m ≡ true → P m
+    turns-end l none m k a = t .done m k a (none m (omega arith))
+
+-- the two ends of a loop that tests each member of s on the roster
+module _ (n : ℕ) (T : Places) (s start left roster : PlaceSet) (small : n ≤ 128) (er : has roster ≡ kept (below n)) (es : has start ≡ intersection (has s) (has roster))
+    (t : Turns n (has start) (λ m. T m ≡ true) left) where
+  pub each-holds : ((k : ℕ) → k < 128 → has left k ≡ false) → true ≡ all n (λ m. not (has s m) || T m)
+  each-holds none =
+      sym (all-intro n (λ m. not (has s m) || T m) (λ m l. implies-intro (has s m) (T m) (λ a.
+      turns-end n (has start) (λ m. T m ≡ true) left t small none m l (cut-at n s start roster small er es m l ∙ a))))
+
+  pub each-fails : (m : ℕ) → has left m ≡ true → T m ≡ false → false ≡ all n (λ m. not (has s m) || T m)
+  each-fails m h f =
+      let k = t .on m h in
+      sym (all-not n (λ m. not (has s m) || T m) m (k .0) (rw (sym (cut-at n s start roster small er es m (k .0)) ∙ k .1, f)))
 
 -- ---- the whole test: the accepted records are looked at only on the roster
 
-module _ (count : ℕ) (R : Places) (w : List ℕ) (n : ℕ) (b : List ℕ) (size-is : n ≡ size count) where
+module _ (count : ℕ) (R F : Places) (w : List ℕ) (n : ℕ) (b : List ℕ) (size-is : n ≡ size count) where
   abbrev pub lent : History
   lent = historyIn n b
+
+  -- nobody is before itself
+  abbrev pub apart : Bool
+  apart = all n (λ p. not (reach n lent p p))
+
+  -- the rows of D hold everyone before them
+  abbrev pub duties : Places → Bool
+  duties D = all n (λ p. not (D p) || subset n (reach n lent p) (lent p))
 
   -- the rows of the returned places, as the code compares them
   abbrev pub compared : Bool
@@ -231,10 +243,17 @@ module _ (count : ℕ) (R : Places) (w : List ℕ) (n : ℕ) (b : List ℕ) (siz
   on-it : (S : Places) (k : ℕ) → k < n → ltb k (size count) && S k ≡ S k
   on-it S k l = rw (← size-is, lt-ltb k n l)
 
-  -- the test, with the records as the code has them
-  test-is : (kind : Kind) → fitsTest kind n (acceptedIn count R w) lent ≡ all n (λ p. not (reach n lent p p)) && closedRows kind n lent && compared
-  unfolding fitsTest acceptedIn
-  test-is kind = ap (λ (x : Bool). all n (λ p. not (reach n lent p p)) && closedRows kind n lent && x) (all-same n recorded (λ p. not (R p) || same n (lent p) (rowsOf w p)) at)
+  duties-is : all n (dutyMet n (acceptedIn count R F w) lent) ≡ duties (intersection R F)
+  unfolding dutyMet fullBack isFull kindIn acceptedIn
+  duties-is = all-same n _ _ (λ p l. ap (λ (x : Bool). not x || subset n (reach n lent p) (lent p)) (ap₂ _&&_ (on-it R p l) (full (F p))))
+    where
+      full : (x : Bool) → isFull (cond x Full Short) ≡ x
+      full true = refl
+      full false = refl
+
+  compared-is : all n (λ p. not (acceptedIn count R F w .returned p) || same n (lent p) (acceptedIn count R F w .row p)) ≡ compared
+  unfolding acceptedIn
+  compared-is = all-same n recorded (λ p. not (R p) || same n (lent p) (rowsOf w p)) at
     where
       cut : History
       cut p q = ltb q (size count) && rowsOf w p q
@@ -251,19 +270,17 @@ module _ (count : ℕ) (R : Places) (w : List ℕ) (n : ℕ) (b : List ℕ) (siz
       at : (p : ℕ) → p < n → recorded p ≡ not (R p) || same n (lent p) (rowsOf w p)
       at p l = ap₂ (λ (x y : Bool). not x || y) (on-it R p l) (row p)
 
-  whole : (kind : Kind) (r : Bool) → r ≡ all n (λ p. not (reach n lent p p)) && closedRows kind n lent && compared
-      → r ≡ fitsTest kind (size count) (acceptedIn count R w) (historyIn (size count) b)
-  whole kind r e = rw (← size-is) (e ∙ sym (test-is kind))
+  -- the test, with the records as the code has them
+  whole : (r : Bool) → r ≡ apart && duties (intersection R F) && compared → r ≡ fitsTest (size count) (acceptedIn count R F w) (historyIn (size count) b)
+  unfolding fitsTest
+  whole r e = rw (← size-is) (e ∙ sym (ap₂ (λ (x y : Bool). apart && x && y) duties-is compared-is))
 
-  pub fits-not : (kind : Kind) → compared ≡ false → false ≡ fitsTest kind (size count) (acceptedIn count R w) (historyIn (size count) b)
-  fits-not kind e = whole kind false (rw e (sym (and-false (all n (λ p. not (reach n lent p p)) && closedRows kind n lent))))
+  pub fits-not : compared ≡ false → false ≡ fitsTest (size count) (acceptedIn count R F w) (historyIn (size count) b)
+  fits-not e = whole false (rw e (sym (and-false (apart && duties (intersection R F)))))
 
-  pub fits-full : (kind : Kind) (r : Bool) → kind ≡ Full → compared ≡ true → r ≡ all n (λ p. not (reach n lent p p)) && closedRows Full n lent
-      → r ≡ fitsTest kind (size count) (acceptedIn count R w) (historyIn (size count) b)
-  fits-full kind r k e h = whole kind r (rw (k, e) (h ∙ sym (and-true (all n (λ p. not (reach n lent p p)) && closedRows Full n lent))))
+  pub fits-circle : apart ≡ false → false ≡ fitsTest (size count) (acceptedIn count R F w) (historyIn (size count) b)
+  fits-circle e = whole false (rw e)
 
-  pub fits-short : (kind : Kind) (r : Bool) → kind ≡ Short → compared ≡ true → r ≡ all n (λ p. not (reach n lent p p))
-      → r ≡ fitsTest kind (size count) (acceptedIn count R w) (historyIn (size count) b)
-  unfolding closedRows
-  fits-short kind r k e h =
-      whole kind r (rw (k, e) (h ∙ sym (and-true (all n (λ p. not (reach n lent p p)) && true) ∙ and-true (all n (λ p. not (reach n lent p p))))))
+  pub fits-duty : (D : Places) (r : Bool) → compared ≡ true → apart ≡ true → D ≡ intersection R F → r ≡ duties D
+      → r ≡ fitsTest (size count) (acceptedIn count R F w) (historyIn (size count) b)
+  fits-duty D r e f d h = whole r (rw (e, f) (h ∙ ap duties d ∙ sym (and-true (duties (intersection R F)))))

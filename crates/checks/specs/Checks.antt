@@ -5,12 +5,13 @@ use mathlib.Core.Logic.{_⊎_}
 use Prim.Native.Nat.{ℕ, _<_}
 use lib.Dec.{leb}
 use Rattle.places.specs.Sets.{any, subset}
-use Rattle.histories.specs.Histories.{History}
+use Rattle.histories.specs.Histories.{Row, History}
 
 -- some row has a place off a roster of n
 unfoldable pub offRoster : ℕ → History → Bool
 offRoster n H = any n (λ p. any 128 (λ q. leb n q && H p q))
 
--- the row of p holds the row of a member k that is m or has m in its row: where the row of k is closed, the row of p holds that of m
-abbrev pub Covered : ℕ → History → ℕ → ℕ → Type 0
-Covered n H p m = (k : ℕ) × (k < n) × (H p k ≡ true) × (subset n (H k) (H p) ≡ true) × ((k ≡ m) ⊎ (H k m ≡ true))
+-- the row of p holds the row of a member k that is m, or that has m in its row and is in S: where the row of each of S is closed, the row of
+-- p holds that of m
+abbrev pub Covered : ℕ → History → Row → ℕ → ℕ → Type 0
+Covered n H S p m = (k : ℕ) × (k < n) × (H p k ≡ true) × (subset n (H k) (H p) ≡ true) × ((k ≡ m) ⊎ ((S k ≡ true) × (H k m ≡ true)))

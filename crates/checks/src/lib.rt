@@ -5,14 +5,12 @@ ghost use mathlib.Core.Bool.{true, false, not, _&&_, _||_};
 ghost use Prim.Native.Nat.{ℕ, _-_, _<_, _≤_};
 ghost use lib.Dec.{leb};
 ghost use lib.ListN.{getD};
-ghost use Rattle.places.specs.Sets.{intersection, any, all, same};
+ghost use Rattle.places.specs.Sets.{intersection, any, all, subset, same};
 ghost use Rattle.places.specs.PlaceSets.{has};
 ghost use Rattle.rows.specs.Rows.{rowsOf, historyIn};
-ghost use Rattle.histories.specs.Rule.{reach, closedRows, fitsTest};
-ghost use Rattle.histories.specs.declared.Kind.the-variants.{Full};
+ghost use Rattle.histories.specs.Rule.{reach, fitsTest};
 ghost use Rattle.answers.specs.Views.{size, acceptedIn};
 ghost use Rattle.checks.specs.Checks.{offRoster, Covered};
-use histories::Kind;
 use places::Found;
 use places::Place;
 use places::PlaceSet;
@@ -78,21 +76,22 @@ fn all_recorded(history: &[u8], rows: &Rows, returned: PlaceSet, n: usize) -> bo
     }
 }
 
-// Whether a place stands in its own row.
-fn in_own(history: &[u8], p: usize) -> bool
-    requires { ⌜ p < 128 ⌝ }
-    ensures { λ r. ⌜ ((n : ℕ) → p < n → r ≡ historyIn n (now (history .entry)) p p) ⌝ }
+// The members of a row that have their turn with it: all, where the row is of a member of `due`, else none.
+fn spared_by(due: PlaceSet, m: Place, row: PlaceSet) -> PlaceSet
+    ensures { λ r. ⌜ has r ≡ (λ q. has due (m .0) && has row q) ⌝ }
 {
-    let row = lent_row(history, p);
-    places::contains(row, Place(p))
+    if places::contains(due, m) {
+        return row;
+    }
+    places::empty()
 }
 
-// Whether the row of p holds the rows of its members, as far as the roster goes. One that stands in the row of another is not looked at: that
-// row has its own turn.
-fn row_closed(history: &[u8], n: usize, p: usize) -> bool
+// Whether the row of p holds the rows of its members, as far as the roster goes. One that stands in the row of a member of `due` is not
+// looked at: that row has its own turn.
+fn row_closed(history: &[u8], due: PlaceSet, n: usize, p: usize) -> bool
     requires { ⌜ (n ≤ 128) × (p < n) ⌝ }
-    ensures { λ r. ⌜ (r ≡ true → (m : ℕ) → m < n → historyIn n (now (history .entry)) p m ≡ true → Covered n (historyIn n (now (history .entry))) p m) ⌝ }
-    ensures { λ r. ⌜ (r ≡ false → closedRows Full n (historyIn n (now (history .entry))) ≡ false) ⌝ }
+    ensures { λ r. ⌜ (r ≡ true → (m : ℕ) → m < n → historyIn n (now (history .entry)) p m ≡ true → Covered n (historyIn n (now (history .entry))) (has due) p m) ⌝ }
+    ensures { λ r. ⌜ (r ≡ false → subset n (reach n (historyIn n (now (history .entry))) p) (historyIn n (now (history .entry)) p) ≡ false) ⌝ }
 {
     let roster = places::below(n);
     let row = lent_row(history, p);
@@ -106,26 +105,27 @@ fn row_closed(history: &[u8], n: usize, p: usize) -> bool
         if !places::is_subset(inner, row) {
             return false;
         }
-        left = places::without(places::difference(left, inner), m);
+        let spared = spared_by(due, m, inner);
+        left = places::without(places::difference(left, spared), m);
     }
 }
 
-// Full kind: no place is in its own row, and the rows are closed, so that what is before a place stands in its row.
-fn sound_full(history: &[u8], n: usize) -> bool
-    requires { ⌜ n ≤ 128 ⌝ }
-    ensures { λ r. ⌜ r ≡ (all n (λ p. not (reach n (historyIn n (now (history .entry))) p p)) && closedRows Full n (historyIn n (now (history .entry)))) ⌝ }
+// Where nobody is before itself: whether the row of each of `due` holds everyone before it.
+fn duty_met(history: &[u8], due: PlaceSet, n: usize) -> bool
+    requires { ⌜ (n ≤ 128) × (all n (λ p. not (reach n (historyIn n (now history)) p p)) ≡ true) ⌝ }
+    ensures { λ r. ⌜ r ≡ all n (λ p. not (has due p) || subset n (reach n (historyIn n (now (history .entry))) p) (historyIn n (now (history .entry)) p)) ⌝ }
 {
-    let mut p = 0;
-    while p < n {
-        if in_own(history, p) {
+    let mut left = places::intersection(due, places::below(n));
+    loop {
+        let found = places::lowest(left);
+        let Found::At(p) = found else {
+            return true;
+        };
+        if !row_closed(history, due, n, p.0) {
             return false;
         }
-        if !row_closed(history, n, p) {
-            return false;
-        }
-        p += 1;
+        left = places::without(left, p);
     }
-    true
 }
 
 // Whether two sets have a member in common.
@@ -150,9 +150,9 @@ fn ahead(history: &[u8], left: PlaceSet, path: &[u8; 128], depth: usize) -> Plac
     places::intersection(row, left)
 }
 
-// Short kind: no place is before itself. A walk meets each place once: each place of its path stands in the row of the one before, and
+// Whether no place is before itself. A walk meets each place once: each place of its path stands in the row of the one before, and
 // a row that meets the path closes a circle. A place leaves the path when nothing in its row is left to be met.
-fn sound_short(history: &[u8], n: usize) -> bool
+fn no_circle(history: &[u8], n: usize) -> bool
     requires { ⌜ n ≤ 128 ⌝ }
     ensures { λ r. ⌜ r ≡ all n (λ p. not (reach n (historyIn n (now (history .entry))) p p)) ⌝ }
 {
@@ -182,15 +182,16 @@ fn sound_short(history: &[u8], n: usize) -> bool
 }
 
 // Whether the lent history fits the accepted records, if no row has a place off the roster.
-pub fn fits(kind: Kind, rows: &Rows, returned: PlaceSet, count: usize, history: &[u8]) -> bool
-    ensures { λ r. ⌜ r ≡ fitsTest kind (size count) (acceptedIn count (has returned) (now (rows .entry))) (historyIn (size count) (now (history .entry))) ⌝ }
+pub fn fits(rows: &Rows, returned: PlaceSet, full: PlaceSet, count: usize, history: &[u8]) -> bool
+    ensures { λ r. ⌜ r ≡ fitsTest (size count) (acceptedIn count (has returned) (has full) (now (rows .entry))) (historyIn (size count) (now (history .entry))) ⌝ }
 {
     let n = answers::size(count);
     if !all_recorded(history, rows, returned, n) {
         return false;
     }
-    match kind {
-        Kind::Full => sound_full(history, n),
-        Kind::Short => sound_short(history, n),
+    if !no_circle(history, n) {
+        return false;
     }
+    let due = places::intersection(returned, full);
+    duty_met(history, due, n)
 }

@@ -10,7 +10,8 @@ use Rattle.places.specs.Sets.{Places, with}
 use Rattle.places.proofs.Booleans.{split, clash, is-false, and-intro, and-left, and-right, or-cases, or-left, or-right, not-true, not-intro, minus-elim, minus-intro}
 use Rattle.histories.specs.declared.Kind.{Kind}
 use Rattle.histories.specs.declared.Kind.the-variants.{Full, Short}
-use Rattle.histories.specs.Histories.{History, Before, heard, through, IsHistory}
+use Rattle.histories.specs.Histories.{History, Before, heard, through}
+use Rattle.histories.specs.Earlier.{IsHistory}
 use Rattle.executions.specs.declared.Event.{Event}
 use Rattle.executions.specs.Executions.{Execution, morning, stopFault, hearFault, fault, listeners, noting, happening}
 
@@ -269,7 +270,7 @@ module _ {k : Kind} {n : ℕ} {D : Execution} (o : Orderly k n D) where
 
   -- at any time, so also when everyone has stopped
   pub orderly-history : IsHistory k n (D .row)
-  orderly-history = record { inside = o .inside; acyclic = λ p b. go p (before-order b); closed = o .closed }
+  orderly-history = record { history = record { inside = o .inside; acyclic = λ p b. go p (before-order b) }; closed = o .closed }
     where
       go : (p : ℕ) → (D .stopped p ≡ true) × ((D .stopped p ≡ false) ⊎ (o .rank p < o .rank p)) → ⊥
       go p (s, inl r) = clash s r

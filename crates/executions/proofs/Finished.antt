@@ -7,12 +7,14 @@ use Prim.Native.Nat.{ℕ, zero, suc, _+_, _^_, _<_, _≤_}
 use native.Mathlib.Omega.{arith}
 use lib.ListN.{length, getD, length-append}
 use lib.Dec.{eqb}
-use borrow.Author.Tests.{lt-ltb, le-leb}
+use borrow.Author.Tests.{lt-ltb, le-leb, eqb-true}
 use Rattle.places.specs.Sets.{any}
-use Rattle.places.proofs.Booleans.{split, clash, is-false, or-left, or-right, eqb-self}
+use Rattle.places.proofs.Booleans.{split, clash, is-false, or-cases, or-left, or-right, eqb-self}
 use Rattle.places.proofs.Tests.{last-or-below, any-elim, any-none}
 use Rattle.histories.specs.declared.Kind.{Kind}
-use Rattle.histories.specs.Histories.{History, IsHistory, none, Fits, Last}
+use Rattle.histories.specs.Histories.{History, none, Fits, Last}
+use Rattle.histories.specs.Earlier.{IsHistory}
+use Rattle.histories.proofs.Closure.{before-closed}
 use Rattle.rosters.specs.Rosters.{IsRoster, listed}
 use Rattle.rosters.specs.declared.Listed.{Listed}
 use Rattle.rosters.specs.declared.Listed.the-variants as L
@@ -31,14 +33,14 @@ use Rattle.replies.specs.declared.Reply.the-variants as O
 use Rattle.recovery.specs.declared.Asked.{Asked}
 use Rattle.recovery.specs.Contracts.{secondsOf, acceptedOf, unopened, openedAs, opened}
 use Rattle.recovery.specs.Demand as D
-use Rattle.recovery.specs.Demand.{Free, Opens, ask, says, OfGroup}
+use Rattle.recovery.specs.Demand.{ask, says, OfGroup}
 use Rattle.recovery.specs.Run.{openingSays, askedSays, outcome, left, reached}
-use Rattle.recovery.proofs.Opens.{known-intro, opens, opened-free}
+use Rattle.recovery.proofs.Opens.{opens, opened-free}
 use Rattle.recovery.proofs.Keeps.{fresh-accepted}
 use Rattle.recovery.specs.Later.{offers, Accepts}
 use Rattle.recovery.proofs.Demand.{Good, good-opened, good-after, step}
 use Rattle.recovery.proofs.Dictated.{last-iff, not-last-iff, Agrees}
-use Rattle.recovery.proofs.Later.{agreeing-accepted}
+use Rattle.recovery.proofs.Later.{Model, agreeing-accepted}
 use Rattle.executions.specs.declared.Day.{Day}
 use Rattle.executions.specs.declared.Event.{Event}
 use Rattle.executions.specs.declared.Played.{Played}
@@ -47,16 +49,29 @@ use Rattle.executions.specs.declared.Opening.{Opening}
 use Rattle.executions.specs.declared.Opening.the-variants as G
 use Rattle.executions.specs.Executions.{Execution}
 use Rattle.executions.specs.Contracts.{sizeOf, executionOf, starting, unbegun, begunAs, begun, dayAfter, played, recordOf, writtenOf}
-use Rattle.executions.specs.Finished.{recordBytes, Over, recordsOf, True}
+use Rattle.executions.specs.Finished.{Known, Free, Opens, unknown, otherwise, recordBytes, Over, recordsOf, True}
 use Rattle.executions.proofs.Executed.{stops, allowed-free, afterStop, happening-stop, orderly-history}
 use Rattle.executions.proofs.Days.{after-execution}
 use Rattle.executions.proofs.Plays.{Kept, kept-starting, kept-after, faultOn, played-kept, Plays, done, next, plays-played}
 
 -- ---- opening
 
+known-intro : (kind : ℕ) → Known kind → knownKind kind ≡ true
+unfolding knownKind
+known-intro kind (inl e) = rw e
+known-intro kind (inr e) = rw e
+
+known-elim : (kind : ℕ) → knownKind kind ≡ true → Known kind
+unfolding knownKind
+known-elim kind e = go (or-cases (eqb kind 1) (eqb kind 2) e)
+  where
+    go : (eqb kind 1 ≡ true) ⊎ (eqb kind 2 ≡ true) → Known kind
+    go (inl h) = inl (eqb-true kind 1 h)
+    go (inr h) = inr (eqb-true kind 2 h)
+
 pub begun-as : (kind : ℕ) (s : List ℕ) → Free kind s → begun kind s ≡ record { answer = G.Opened; day = starting (kindOf kind) s }
 unfolding begun begunAs
-begun-as kind s f = rw (known-intro kind (f .known), listed-sound s .1 (f .sound))
+begun-as kind s f = rw (known-intro kind (f .known), listed-sound s .1 (f .list .sound))
 
 pub begun-free : (kind : ℕ) (s : List ℕ) → Free kind s → begun kind s .answer ≡ G.Opened
 begun-free kind s f = ap (λ (b : Begun). b .answer) (begun-as kind s f)
@@ -67,38 +82,48 @@ alike G.Opened = R.Opened
 alike (G.Refused j) = R.Refused j
 
 module _ (kind : ℕ) (s : List ℕ) where
-  -- a day and a recovery are opened alike
-  pub begun-alike : alike (begun kind s .answer) ≡ opened kind s .answer
-  unfolding alike begun begunAs unbegun opened openedAs unopened
-  begun-alike = go (knownKind kind) (listed s)
-    where
-      go : (b : Bool) (l : Listed) → alike (cond b (begunAs (kindOf kind) s l) (unbegun 2) .answer) ≡ cond b (openedAs (kindOf kind) s l) (unopened 2) .answer
-      go true L.Sound = refl
-      go true (L.Refused j) = refl
-      go false l = refl
+  -- a kind byte that is not known is refused, whatever the list
+  pub begun-unknown : ¬ (Known kind) → begun kind s .answer ≡ G.Refused 2
+  unfolding begun unbegun
+  begun-unknown z = ap (λ (b : Bool). cond b (begunAs (kindOf kind) s (listed s)) (unbegun 2) .answer) (is-false (knownKind kind) (λ e. z (known-elim kind e)))
 
-  -- and refused alike, so by the same faults in the same order
-  pub begins : (j : ℕ) → (begun kind s .answer ≡ G.Refused j) ↔ (opened kind s .answer ≡ R.Refused j)
-  unfolding alike
-  begins j = (λ e. sym begun-alike ∙ ap alike e, λ e. back (begun kind s .answer) (begun-alike ∙ e))
-    where
-      back : (a : Opening) → alike a ≡ R.Refused j → a ≡ G.Refused j
-      back G.Opened e = let z : _≡_ {A = ℕ} 0 1 = cc in absurd (omega arith)
-      back (G.Refused i) e = let z : i ≡ j = cc in ap G.Refused z
+  module _ (k : Known kind) where
+    -- otherwise a day and a recovery are opened alike
+    pub begun-alike : alike (begun kind s .answer) ≡ opened s .answer
+    unfolding alike begun begunAs unbegun opened openedAs unopened
+    begun-alike = ap (λ (b : Bool). alike (cond b (begunAs (kindOf kind) s (listed s)) (unbegun 2) .answer)) (known-intro kind k) ∙ go (listed s)
+      where
+        go : (l : Listed) → alike (begunAs (kindOf kind) s l .answer) ≡ openedAs s l .answer
+        go L.Sound = refl
+        go (L.Refused j) = refl
 
-  pub begins-opened : (begun kind s .answer ≡ G.Opened) ↔ (opened kind s .answer ≡ R.Opened)
-  unfolding alike
-  begins-opened = (λ e. sym begun-alike ∙ ap alike e, λ e. back (begun kind s .answer) (begun-alike ∙ e))
-    where
-      back : (a : Opening) → alike a ≡ R.Opened → a ≡ G.Opened
-      back G.Opened e = refl
-      back (G.Refused i) e = let z : _≡_ {A = ℕ} 0 1 = cc in absurd (omega arith)
+    -- and refused alike, so by the same faults in the same order
+    pub begins : (j : ℕ) → (begun kind s .answer ≡ G.Refused j) ↔ (opened s .answer ≡ R.Refused j)
+    unfolding alike
+    begins j = (λ e. sym begun-alike ∙ ap alike e, λ e. back (begun kind s .answer) (begun-alike ∙ e))
+      where
+        back : (a : Opening) → alike a ≡ R.Refused j → a ≡ G.Refused j
+        back G.Opened e = let z : _≡_ {A = ℕ} 0 1 = cc in absurd (omega arith)
+        back (G.Refused i) e = let z : i ≡ j = cc in ap G.Refused z
+
+    pub begins-opened : (begun kind s .answer ≡ G.Opened) ↔ (opened s .answer ≡ R.Opened)
+    unfolding alike
+    begins-opened = (λ e. sym begun-alike ∙ ap alike e, λ e. back (begun kind s .answer) (begun-alike ∙ e))
+      where
+        back : (a : Opening) → alike a ≡ R.Opened → a ≡ G.Opened
+        back G.Opened e = refl
+        back (G.Refused i) e = let z : _≡_ {A = ℕ} 0 1 = cc in absurd (omega arith)
 
   pub begins-as : Opens kind s (openingSays (alike (begun kind s .answer)))
-  begins-as = rw begun-alike (opens kind s)
+  unfolding alike openingSays
+  begins-as = go (split (knownKind kind))
+    where
+      go : (knownKind kind ≡ true) ⊎ (knownKind kind ≡ false) → Opens kind s (openingSays (alike (begun kind s .answer)))
+      go (inl e) = rw (begun-alike (known-elim kind e)) (otherwise (known-elim kind e) (opens s))
+      go (inr e) = let z : ¬ (Known kind) = λ k. clash (known-intro kind k) e in rw (begun-unknown z) (unknown z)
 
 pub begun-kept : (kind : ℕ) (s : List ℕ) → Free kind s → Kept (kindOf kind) s (begun kind s .day)
-begun-kept kind s f = subst (λ (b : Begun). Kept (kindOf kind) s (b .day)) (sym (begun-as kind s f)) (kept-starting (kindOf kind) s (f .sound .few))
+begun-kept kind s f = subst (λ (b : Begun). Kept (kindOf kind) s (b .day)) (sym (begun-as kind s f)) (kept-starting (kindOf kind) s (f .list .sound .few))
 
 -- ---- a day that was opened and played, and a recovery of its group
 
@@ -116,13 +141,13 @@ module _ {k : Kind} {s : List ℕ} {d : Day} (sound : IsRoster s) (below : (p : 
     roster = rw (g .sound .is-roster) sound;
     below = rw (g .sound .is-roster) below;
     own = rw (g .sound .is-roster) l;
-    mourned = rw (g .sound .is-roster) (λ q e. is-history .inside p q e .1);
+    mourned = rw (g .sound .is-roster) (λ q e. is-history .history .inside p q e .1);
   }
 
   -- and is read back from its bytes as one of the group, whatever second serials it has
-  record-group : (seconds : List ℕ) (p : ℕ) → p < length s → OfGroup k s seconds (recordBytes d p) (recordOf d p)
+  record-group : (seconds : List ℕ) (p : ℕ) → p < length s → OfGroup s seconds (recordBytes d p) (recordOf d p)
   unfolding recordBytes recordOf
-  record-group seconds p l = record { rest = []; reads = layout-lone (countsAs s seconds) (recordOf d p) (record-stored p l); same-kind = g .sound .is-kind; same-roster = g .sound .is-roster }
+  record-group seconds p l = record { rest = []; reads = layout-lone (countsAs s seconds) (recordOf d p) (record-stored p l); same-roster = g .sound .is-roster }
 
   -- somebody heard one that is not last
   heard-of : (i : ℕ) → ¬ (Last rows i) → (x : ℕ) × (rows x i ≡ true)
@@ -130,9 +155,9 @@ module _ {k : Kind} {s : List ℕ} {d : Day} (sound : IsRoster s) (below : (p : 
     where
       go : (t : Bool) → any (length s) (λ x. rows x i) ≡ t → (x : ℕ) × (rows x i ≡ true)
       go true e = let w = any-elim (length s) (λ x. rows x i) e in (w .0, w .2)
-      go false e = absurd (z (λ p. is-false (rows p i) (λ t. clash t (any-none (length s) (λ x. rows x i) e p (is-history .inside p i t .0)))))
+      go false e = absurd (z (λ p. is-false (rows p i) (λ t. clash t (any-none (length s) (λ x. rows x i) e p (is-history .history .inside p i t .0)))))
 
-  answers-true : {r : Recovery} → Good k s r → Fits k (length s) (acceptedOf r) rows → True d r
+  answers-true : {r : Recovery} → Good s r → Fits (length s) (acceptedOf r) rows → True d r
   unfolding outcome askedSays
   answers-true good f = record {
     last = λ p e. last-iff (good .fits) (step good (ask p)) .0 (ap (λ (a : Asked). says (askedSays a)) e) .1 rows f;
@@ -140,44 +165,58 @@ module _ {k : Kind} {s : List ℕ} {d : Day} (sound : IsRoster s) (below : (p : 
   }
 
   -- each record agrees with the day
-  records-agree : (seconds : List ℕ) (ps : List ℕ) → ((p : ℕ) → List·Memᴰ p ps → p < length s) → (x : List ℕ) → List·Memᴰ x (recordsOf d ps) → Agrees k s seconds rows x
+  records-agree : (seconds : List ℕ) (ps : List ℕ) → ((p : ℕ) → List·Memᴰ p ps → p < length s) → (x : List ℕ) → List·Memᴰ x (recordsOf d ps) → Agrees s seconds rows (λ p. k) x
   unfolding recordsOf recordOf
   records-agree seconds [] on x m = absurd (List·Memᴰ·not-nil m)
   records-agree seconds (p ∷ ps) on x m = go (records-agree seconds ps (λ q n. on q (List·Memᴰ·tail n)) x) (List·Memᴰ·cases-cons m)
     where
-      go : (List·Memᴰ x (map (recordBytes d) ps) → Agrees k s seconds rows x) → (x ≡ recordBytes d p) ⊎ List·Memᴰ x (map (recordBytes d) ps) → Agrees k s seconds rows x
-      go rest (inl e) = subst (Agrees k s seconds rows) (sym e) (record { stored = recordOf d p; of-group = record-group seconds p (on p (List·Memᴰ·head refl)); row = refl })
+      go : (List·Memᴰ x (map (recordBytes d) ps) → Agrees s seconds rows (λ p. k) x) → (x ≡ recordBytes d p) ⊎ List·Memᴰ x (map (recordBytes d) ps) → Agrees s seconds rows (λ p. k) x
+      go rest (inl e) = subst (Agrees s seconds rows (λ p. k)) (sym e) (record {
+        stored = recordOf d p;
+        of-group = record-group seconds p (on p (List·Memᴰ·head refl));
+        kind = g .sound .is-kind;
+        row = refl;
+        duty = λ e q w. before-closed (is-history .closed (sym (g .sound .is-kind) ∙ e)) w;
+      })
       go rest (inr n) = rest n
 
   -- the records of any places, in any order
-  all-accepted : (ps : List ℕ) → ((p : ℕ) → List·Memᴰ p ps → p < length s) → (r : Recovery) → Good k s r → Fits k (length s) (acceptedOf r) rows
+  all-accepted : (ps : List ℕ) → ((p : ℕ) → List·Memᴰ p ps → p < length s) → (r : Recovery) → Good s r → Model s rows (λ p. k) r
       → Accepts r (recordsOf d ps) × True d (left r (offers (recordsOf d ps)))
   all-accepted ps on r good f =
       let w = agreeing-accepted good f (recordsOf d ps) (records-agree (secondsOf r) ps on) in
-      (w .0, answers-true (good-after good (offers (recordsOf d ps))) (w .1))
+      (w .0, answers-true (good-after good (offers (recordsOf d ps))) (w .1 .fits))
 
 -- ---- the theorem
 
 module _ (kind : ℕ) (s : List ℕ) (f : Free kind s) where
-  opened-none : acceptedOf (opened kind s .recovery) ≡ none
-  opened-none = ap (λ (o : Opened). acceptedOf (o .recovery)) (opened-free kind s f) ∙ fresh-accepted (kindOf kind) s
+  opened-none : acceptedOf (opened s .recovery) ≡ none
+  opened-none = ap (λ (o : Opened). acceptedOf (o .recovery)) (opened-free s (f .list)) ∙ fresh-accepted s
+
+  -- nobody is back, so every history fits
+  opened-model : {k : Kind} (H : History) → IsHistory k (length s) H → Model s H (λ p. k) (opened s .recovery)
+  opened-model H h = record {
+    fits = rw opened-none (record { history = h .history; recorded = λ p e q. clash e refl; duty = λ p e x q w. clash e refl });
+    kinds = rw opened-none (λ p e. clash e refl);
+  }
 
   -- of a day that was opened and played, over or not
   pub any-time : (d : Day) → Kept (kindOf kind) s d
       → IsHistory (kindOf kind) (length s) (executionOf d .row)
-      × ((ps : List ℕ) → ((p : ℕ) → List·Memᴰ p ps → p < length s) → Accepts (opened kind s .recovery) (recordsOf d ps) × True d (reached kind s (offers (recordsOf d ps))))
+      × ((ps : List ℕ) → ((p : ℕ) → List·Memᴰ p ps → p < length s) → Accepts (opened s .recovery) (recordsOf d ps) × True d (reached s (offers (recordsOf d ps))))
   any-time d g = (
-    is-history (f .sound) (f .serials) g,
-    λ ps on. all-accepted (f .sound) (f .serials) g ps on (opened kind s .recovery) (good-opened f) (rw opened-none (record { history = is-history (f .sound) (f .serials) g; recorded = λ p e q. clash e refl })),
+    is-history (f .list .sound) (f .list .serials) g,
+    λ ps on. all-accepted (f .list .sound) (f .list .serials) g ps on (opened s .recovery) (good-opened (f .list)) (opened-model (executionOf d .row) (is-history (f .list .sound) (f .list .serials) g)),
   )
 
--- for every kind and roster free of faults and every list of events, once the day is over: its rows are a history, and its records
+-- for every kind and roster free of faults and every list of events, once the day is over: its rows are a history, each row of a full
+-- day holds all that is in the rows of its members, and its records
 -- are taken or repeated in every order, and what the recovery then answers of a place is true of the day
 pub finished : (kind : ℕ) (s : List ℕ) → Free kind s → (es : List Event) → Over (played (begun kind s .day) es .day)
     → IsHistory (kindOf kind) (length s) (executionOf (played (begun kind s .day) es .day) .row)
     × ((ps : List ℕ) → ((p : ℕ) → List·Memᴰ p ps → p < length s)
-    → Accepts (opened kind s .recovery) (recordsOf (played (begun kind s .day) es .day) ps)
-    × True (played (begun kind s .day) es .day) (reached kind s (offers (recordsOf (played (begun kind s .day) es .day) ps))))
+    → Accepts (opened s .recovery) (recordsOf (played (begun kind s .day) es .day) ps)
+    × True (played (begun kind s .day) es .day) (reached s (offers (recordsOf (played (begun kind s .day) es .day) ps))))
 finished kind s f es over = any-time kind s f (played (begun kind s .day) es .day) (played-kept (begun-kept kind s f) es)
 
 -- ---- its records are written
@@ -272,5 +311,5 @@ pub ends : (kind : ℕ) (s : List ℕ) → Free kind s → (es : List Event) →
 ends kind s f es =
     let g = played-kept (begun-kept kind s f) es in
     let w = all-stop g (length s) (omega arith) in
-    let e = plays-played (w .plays) (omega (arith, w .few, f .sound .few)) in
+    let e = plays-played (w .plays) (omega (arith, w .few, f .list .sound .few)) in
     (w .events, ap (λ (p : Played). p .refusal) e, subst (λ (p : Played). Over (p .day)) (sym e) (λ p l. w .all p (rw (w .kept .sound .is-size) at l)))

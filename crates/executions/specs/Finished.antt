@@ -1,7 +1,8 @@
--- The records of a day that is over, offered to a recovery: what is said of them in bytes, by the definitions that the contracts of the day and of
+-- The opening of a day, and the records of one that is over, offered to a recovery: what is said of them in bytes, by the definitions that the contracts of the day and of
 -- the recovery cite. Assumes nothing.
 use mathlib.Core.Path.{_≡_}
 use mathlib.Core.Bool.{true}
+use mathlib.Core.Logic.{_⊎_}
 use mathlib.Core.List.{List, map}
 use Prim.Native.Nat.{ℕ, _<_}
 use Rattle.histories.specs.Histories.{Last}
@@ -9,8 +10,28 @@ use Rattle.records.specs.Layout.{layout}
 use Rattle.recovery.specs.declared.Recovery.{Recovery}
 use Rattle.recovery.specs.declared.Asked.the-variants as A
 use Rattle.recovery.specs.Contracts.{asked}
+use Rattle.recovery.specs.Demand as D
+use Rattle.recovery.specs.Demand.{Said, refused}
 use Rattle.executions.specs.declared.Day.{Day}
 use Rattle.executions.specs.Contracts.{sizeOf, executionOf, recordOf}
+
+-- ---- opening a day
+
+-- a kind byte that is known
+abbrev pub Known : ℕ → Type 0
+Known kind = (kind ≡ 1) ⊎ (kind ≡ 2)
+
+-- an opening free of the faults 2 to 5
+pub record Free (kind : ℕ) (roster : List ℕ) : Type 0 where
+  pub known : Known kind
+  pub list : D.Free roster
+
+-- what opening a day must say: 2, and then what opening a recovery must
+pub data Opens (kind : ℕ) (s : List ℕ) : Said → Type 0 where
+  unknown : ¬ (Known kind) → Opens kind s (refused 2)
+  otherwise : {w : Said} → Known kind → D.Opens s w → Opens kind s w
+
+-- ---- its records
 
 -- the bytes that the day's writer writes for p
 unfoldable pub recordBytes : Day → ℕ → List ℕ

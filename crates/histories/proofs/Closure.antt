@@ -23,10 +23,20 @@ pub before-closed : {H : History} → ((p m q : ℕ) → H p m ≡ true → H m 
 before-closed c (heard e) = e
 before-closed c (through {q = q} {m = m} {p = p} e b) = c p m q (before-closed c b) e
 
-reach-heard : (k : ℕ) (H : History) (p q : ℕ) → H p q ≡ true → reach k H p q ≡ true
+pub reach-heard : (k : ℕ) (H : History) (p q : ℕ) → H p q ≡ true → reach k H p q ≡ true
 unfolding reach
 reach-heard zero H p q e = e
 reach-heard (suc k) H p q e = or-left (reach k H p k && reach k H k q) (reach-heard k H p q e)
+
+-- more in the rows, more reached
+pub reach-mono : (k : ℕ) (G H : History) → ((p q : ℕ) → G p q ≡ true → H p q ≡ true) → (p q : ℕ) → reach k G p q ≡ true → reach k H p q ≡ true
+unfolding reach
+reach-mono zero G H s p q e = s p q e
+reach-mono (suc k) G H s p q e = go (or-cases (reach k G p q) (reach k G p k && reach k G k q) e) (reach-mono k G H s)
+  where
+    go : (reach k G p q ≡ true) ⊎ (reach k G p k && reach k G k q ≡ true) → ((p q : ℕ) → reach k G p q ≡ true → reach k H p q ≡ true) → reach k H p q || reach k H p k && reach k H k q ≡ true
+    go (inl h) less = or-left (reach k H p k && reach k H k q) (less p q h)
+    go (inr h) less = or-right (reach k H p q) (and-intro (less p k (and-left (reach k G p k) (reach k G k q) h)) (less k q (and-right (reach k G p k) (reach k G k q) h)))
 
 pub reach-sound : (k : ℕ) (H : History) (p q : ℕ) → reach k H p q ≡ true → Before H q p
 unfolding reach
@@ -38,7 +48,7 @@ reach-sound (suc k) H p q e = go (or-cases (reach k H p q) (reach k H p k && rea
     go (inr h) less = before-trans (less k q (and-right (reach k H p k) (reach k H k q) h)) (less p k (and-left (reach k H p k) (reach k H k q) h))
 
 -- two reaches that meet at a place below k make one
-reach-trans : (k : ℕ) (H : History) (p m q : ℕ) → m < k → reach k H p m ≡ true → reach k H m q ≡ true → reach k H p q ≡ true
+pub reach-trans : (k : ℕ) (H : History) (p m q : ℕ) → m < k → reach k H p m ≡ true → reach k H m q ≡ true → reach k H p q ≡ true
 unfolding reach
 reach-trans zero H p m q l a b = absurd (omega arith)
 reach-trans (suc k) H p m q l a b = go (last-or-below m k l) (or-cases (R p m) (R p k && R k m) a) (or-cases (R m q) (R m k && R k q) b) (reach-trans k H)

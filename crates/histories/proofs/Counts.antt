@@ -12,7 +12,6 @@ use borrow.Author.Tests.{eqb-false, eq-eqb, ne-eqb, ltb-true}
 use Rattle.places.specs.Sets.{Places, without, count}
 use Rattle.places.proofs.Booleans.{clash, is-false, minus-elim, minus-intro, eqb-self}
 use Rattle.places.proofs.Counting.{count-same, count-nothing, count-without}
-use Rattle.histories.specs.declared.Kind.{Kind}
 use Rattle.histories.specs.Histories.{History, Accepted, Fits}
 use Rattle.histories.specs.Rule.{mourned, unmourned, unmournedCount}
 use Rattle.histories.proofs.Exact.{Mourned, unmourned-iff}
@@ -86,7 +85,7 @@ unfolding unmourned unmournedCount
 unmourned-count n A xs l = count-lists n (unmourned n A) xs (λ q e. ltb-true q n (minus-elim (ltb q n) (mourned n A q) e .0)) l
 
 -- in the words of the accepted records: of the places below n, those that no returned record names
-pub unmourned-counted : {k : Kind} {n : ℕ} {A : Accepted} {H : History} → Fits k n A H → {xs : List ℕ} → Once xs
+pub unmourned-counted : {n : ℕ} {A : Accepted} {H : History} → Fits n A H → {xs : List ℕ} → Once xs
     → ((q : ℕ) → List·Memᴰ q xs ↔ ((q < n) × (¬ (Mourned A q)))) → length xs ≡ unmournedCount n A
 unmourned-counted {n = n} {A} f {xs} o m =
     unmourned-count n A xs (record { once = o; members = λ q. (λ d. unmourned-iff f q .1 (m q .0 d), λ e. m q .1 (unmourned-iff f q .0 e)) })

@@ -8,16 +8,8 @@ use crate::outcomes;
 use crate::outcomes::REPEATED;
 use crate::piles;
 use crate::tallies::Tally;
-use histories::Kind;
 use places::PlaceSet;
 use recovery::Recovery;
-
-fn kind_number(kind: Kind) -> u8 {
-    match kind {
-        Kind::Full => 1,
-        Kind::Short => 2,
-    }
-}
 
 fn same_set(a: PlaceSet, b: PlaceSet) -> bool {
     if a.low != b.low {
@@ -44,14 +36,9 @@ fn same_rows(a: &[u8; 2048], b: &[u8; 2048]) -> bool {
     true
 }
 
-// The kind, the count and both sets.
+// The count and the four sets.
 fn same_heads(a: Recovery, b: Recovery) -> bool {
     if a.count != b.count {
-        return false;
-    }
-    let one = a.kind;
-    let two = b.kind;
-    if kind_number(one) != kind_number(two) {
         return false;
     }
     let one = a.returned;
@@ -59,8 +46,18 @@ fn same_heads(a: Recovery, b: Recovery) -> bool {
     if !same_set(one, two) {
         return false;
     }
+    let one = a.full;
+    let two = b.full;
+    if !same_set(one, two) {
+        return false;
+    }
     let one = a.mourned;
     let two = b.mourned;
+    if !same_set(one, two) {
+        return false;
+    }
+    let one = a.earlier;
+    let two = b.earlier;
     same_set(one, two)
 }
 
@@ -102,11 +99,11 @@ pub fn left(old: Recovery, place: usize, x: u32, answer: u64, new: Recovery) -> 
 }
 
 fn laid(pile: Pile, c: Case, place: usize) -> Pile {
-    let digit = cases::digit(c, place);
-    if digit == 0 {
+    if cases::is_absent(c, place) {
         return pile;
     }
-    matrices::with(pile, place, digit - 1)
+    let kind = cases::kind(c, place);
+    matrices::with(pile, kind, place, cases::mourned(c, place))
 }
 
 // All records of a case, whether they are taken or not.
@@ -119,11 +116,11 @@ fn whole(c: Case) -> Pile {
 
 // The record of a place offered once more, unless it is absent.
 fn again(c: Case, r: Recovery, t: Tally, place: usize) -> Tally {
-    let digit = cases::digit(c, place);
-    if digit == 0 {
+    if cases::is_absent(c, place) {
         return t;
     }
-    let got = piles::offer(c, r, place, digit - 1);
+    let kind = cases::kind(c, place);
+    let got = piles::offer(c.n, r, kind, place, cases::mourned(c, place));
     let answer = got.answer;
     let left = got.recovery;
     let came = outcomes::reply(answer);
@@ -138,7 +135,6 @@ pub fn played(list: &[u32], c: Case, t: Tally) -> Tally {
         return t;
     }
     let first = Case {
-        kind: c.kind,
         n: c.n,
         pile: c.pile,
         order: 0,

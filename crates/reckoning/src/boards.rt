@@ -1,5 +1,6 @@
 // Board swaps, case by case: which second serials are refused, how they are found, and records that use them. The small rosters have
 // 65536, 131072 and 196608, and 458752, 524288 and 589824 as their second serials.
+use crate::cases;
 use crate::counts;
 use crate::outcomes::GIVEN;
 use crate::outcomes::NOTHING;
@@ -58,7 +59,7 @@ fn in_order(t: Tally, kind: u8) -> Tally {
 // A recovery that was refused has no places.
 fn unopened(t: Tally) -> Tally {
     let zeros = [0u32; 3];
-    let got = recovery::open(1, &zeros);
+    let got = recovery::open(&zeros);
     let r = got.recovery;
     let g = Run {
         case: 43,
@@ -122,7 +123,7 @@ fn of_128(t: Tally, kind: u8) -> Tally {
     g.tally
 }
 
-// A record that was taken before a giving stays as it is, and comes again in either serials.
+// A record that was taken before a giving stays as it is, and comes again in either serials, but not in the other kind.
 fn taken_before(t: Tally, kind: u8, letters: &[u8]) -> Tally {
     let seconds = [458752u32, 524288, 589824];
     let g = runs::opened(t, 45, kind, 3);
@@ -138,8 +139,11 @@ fn taken_before(t: Tally, kind: u8, letters: &[u8]) -> Tally {
     let g = runs::offer_mixed(g, 0, true, 2, 2, REPEATED);
     let g = runs::offer_mixed(g, 0, true, 4, 4, 10);
     let g = runs::offer_mixed(g, 0, true, 1, 0, 10);
+    let g = runs::turned(g, cases::other(kind));
+    let g = runs::offer_mixed(g, 0, false, 2, 0, 10);
+    let g = runs::offer_mixed(g, 0, true, 2, 2, 10);
     let g = runs::answers(g, letters, false);
-    let g = runs::write(g, 0, 2);
+    let g = runs::write(runs::turned(g, kind), 0, 2);
     g.tally
 }
 

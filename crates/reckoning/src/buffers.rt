@@ -28,32 +28,18 @@ fn untouched(c: Case, t: Tally, place: usize, first: &[u8; 80], second: &[u8; 80
 }
 
 // The first has the recorded rows and no more; both are histories that fit, the place last in one and not in the other; and the
-// second is the recorded rows with one row more, of the lowest absent place that can have heard this one.
-fn histories(
-    list: &[u32],
-    c: Case,
-    pile: Pile,
-    tally: Tally,
-    place: usize,
-    first: u32,
-    second: u32,
-) -> Tally {
+// second is the recorded rows with one row more, of the lowest absent place that can have heard this one and everyone before it.
+fn histories(c: Case, pile: Pile, t: Tally, place: usize, first: u32, second: u32) -> Tally {
     let about = place as u64;
-    let t = cases::held(
-        tally,
-        c,
-        b"show, first",
-        about,
-        pile.rows as u64,
-        first as u64,
-    );
+    let known = matrices::rows(pile);
+    let t = cases::held(t, c, b"show, first", about, known as u64, first as u64);
     let t = cases::held(
         t,
         c,
         b"show, of the first",
         about,
         outcomes::LAST,
-        matrices::verdict(list, pile, place, first),
+        matrices::verdict(c.n, pile, place, first),
     );
     let t = cases::held(
         t,
@@ -61,15 +47,15 @@ fn histories(
         b"show, of the second",
         about,
         outcomes::NOT_LAST,
-        matrices::verdict(list, pile, place, second),
+        matrices::verdict(c.n, pile, place, second),
     );
-    let heard = matrices::lowest_heard(list, c.kind, pile, place);
+    let heard = matrices::lowest_heard(c.n, pile, place);
     cases::held(t, c, b"show, second", about, heard as u64, second as u64)
 }
 
 // What showing says of a place.
 fn shown(list: &[u32], pile: Pile, place: usize) -> u64 {
-    if matrices::answer(list, pile, place) == outcomes::OPEN {
+    if matrices::answer(list, pile, matrices::fitting(list, pile), place) == outcomes::OPEN {
         return outcomes::SHOWN;
     }
     outcomes::DECIDED
@@ -87,22 +73,16 @@ fn show(list: &[u32], c: Case, r: Recovery, pile: Pile, tally: Tally, place: usi
     }
     let one = laid::read(c.n, &first);
     let two = laid::read(c.n, &second);
-    histories(list, c, pile, t, place, one, two)
+    histories(c, pile, t, place, one, two)
 }
 
 // Writes the record of a place that is back: the bytes that were offered.
-fn write_back(c: Case, r: Recovery, t: Tally, place: usize, mourned: u32) -> Tally {
+fn write_back(c: Case, r: Recovery, t: Tally, kind: u8, place: usize, mourned: u32) -> Tally {
     let serials = stored::serials();
     let n = c.n;
     let mut made = [0u8; 1100];
     let mut out = [0xaau8; 80];
-    let length = stored::record(
-        c.kind,
-        place,
-        parts::of_six(&serials, n),
-        mourned,
-        &mut made,
-    );
+    let length = stored::record(kind, place, parts::of_six(&serials, n), mourned, &mut made);
     let got = recovery::write(r, Place(place), &mut out, 20);
     let t = cases::held(
         t,
@@ -131,28 +111,21 @@ fn write_none(c: Case, r: Recovery, t: Tally, place: usize) -> Tally {
     )
 }
 
-// Offers a record of a place that is back: the same again, and another.
-fn again(c: Case, r: Recovery, t: Tally, place: usize, mourned: u32) -> Tally {
-    let same = piles::offer(c, r, place, mourned);
-    let reply = same.answer;
-    let t = cases::held(
-        t,
-        c,
-        b"offer again",
-        place as u64,
-        outcomes::REPEATED,
-        outcomes::reply(reply),
-    );
-    let other = piles::offer(c, r, place, mourned ^ 1);
-    let reply = other.answer;
-    cases::held(
-        t,
-        c,
-        b"offer another",
-        place as u64,
-        10,
-        outcomes::reply(reply),
-    )
+// Offers a record of a place that is back: the same again, another set, and the other kind.
+fn again(c: Case, r: Recovery, t: Tally, kind: u8, place: usize, mourned: u32) -> Tally {
+    let about = place as u64;
+    let got = piles::offer(c.n, r, kind, place, mourned);
+    let reply = got.answer;
+    let came = outcomes::reply(reply);
+    let t = cases::held(t, c, b"offer again", about, outcomes::REPEATED, came);
+    let got = piles::offer(c.n, r, kind, place, mourned ^ 1);
+    let reply = got.answer;
+    let came = outcomes::reply(reply);
+    let t = cases::held(t, c, b"offer another set", about, 10, came);
+    let got = piles::offer(c.n, r, cases::other(kind), place, mourned);
+    let reply = got.answer;
+    let came = outcomes::reply(reply);
+    cases::held(t, c, b"offer in the other kind", about, 10, came)
 }
 
 // All of this for a place.
@@ -161,9 +134,10 @@ fn of_place(list: &[u32], c: Case, r: Recovery, pile: Pile, tally: Tally, place:
     if !matrices::is_back(pile, place) {
         return write_none(c, r, t, place);
     }
+    let kind = matrices::kind(pile, place);
     let mourned = matrices::row(pile.rows, place);
-    let t = write_back(c, r, t, place, mourned);
-    again(c, r, t, place, mourned)
+    let t = write_back(c, r, t, kind, place, mourned);
+    again(c, r, t, kind, place, mourned)
 }
 
 pub(crate) fn places(list: &[u32], c: Case, r: Recovery, pile: Pile, tally: Tally) -> Tally {
@@ -179,13 +153,10 @@ pub(crate) fn places(list: &[u32], c: Case, r: Recovery, pile: Pile, tally: Tall
 
 // What the check says of a matrix.
 fn checked(c: Case, pile: Pile, m: u32) -> u64 {
-    if !matrices::is_history(c.kind, c.n, m) {
-        return outcomes::FITS_NOT;
+    if matrices::fits(c.n, pile, m) {
+        return outcomes::FITS;
     }
-    if m & pile.mask != pile.rows {
-        return outcomes::FITS_NOT;
-    }
-    outcomes::FITS
+    outcomes::FITS_NOT
 }
 
 fn check(c: Case, r: Recovery, pile: Pile, t: Tally, m: u32) -> Tally {

@@ -1,5 +1,5 @@
 // What a caller is refused, and in which order. The recovery is P7's: three places, 0 and 1 back with empty sets, so that 2 is last
-// and 0 and 1 are open. Its rows are 48 bytes, and each of its records 19.
+// and 0 and 1 are open; the record of 0 is short, that of 1 full. Its rows are 48 bytes, and each of its records 19.
 use crate::laid;
 use crate::outcomes;
 use crate::outcomes::DECIDED;
@@ -127,6 +127,14 @@ fn checks(t: Tally, r: Recovery) -> Tally {
     check(t, r, 80, 79, 255, FITS)
 }
 
+// The kind of a place's record.
+fn kind(place: usize) -> u8 {
+    if place == 1 {
+        return 1;
+    }
+    2
+}
+
 // Writes into the first bytes of a buffer, which is touched only where the record goes.
 fn write(
     tally: Tally,
@@ -153,7 +161,7 @@ fn write(
         came,
     );
     let serials = stored::serials();
-    let all = stored::record(2, place, parts::of_six(&serials, 3), 0, &mut made);
+    let all = stored::record(kind(place), place, parts::of_six(&serials, 3), 0, &mut made);
     let same = if came < 16 {
         laid::read(0, &out) == 0
     } else {
@@ -191,8 +199,9 @@ fn writes(t: Tally, r: Recovery) -> Tally {
 }
 
 pub fn cases(t: Tally) -> Tally {
-    let g = runs::opened(t, 7, 2, 3);
+    let g = runs::opened(t, 7, kind(0), 3);
     let g = runs::offer(g, 0, 0, TAKEN);
+    let g = runs::turned(g, kind(1));
     let g = runs::offer(g, 1, 0, TAKEN);
     let r = g.recovery;
     let t = g.tally;

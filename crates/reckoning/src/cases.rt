@@ -1,5 +1,5 @@
-// Piles of small rosters as numbers. A pile of n places is a number in base 2 to the power n, plus 1: a place's digit is 0 where it
-// is absent, else its mourned set, as the sum of its bits, and 1.
+// Piles of small rosters as numbers. A place's digit is 0 where it is absent, 1 and twice its mourned set where its record is full, and
+// one more where that is short; a set is the sum of its bits. The base for n places is thus 2 to the power n + 1, plus 1.
 ghost use Prim.Native.Nat.{_≤_, _<_};
 use crate::outcomes;
 use crate::say;
@@ -8,7 +8,6 @@ use crate::tallies::Tally;
 
 // A pile and an order of its records.
 pub struct Case {
-    pub kind: u8,
     pub n: usize,
     pub pile: u32,
     pub order: u32,
@@ -18,22 +17,22 @@ fn base(n: usize) -> u32
     ensures { λ r. ⌜ 0 < r ⌝ }
 {
     match n {
-        1 => 3,
-        2 => 5,
-        3 => 9,
-        _ => 17,
+        1 => 5,
+        2 => 9,
+        3 => 17,
+        _ => 33,
     }
 }
 
 // How many piles there are.
 pub fn piles(n: usize) -> u32
-    ensures { λ r. ⌜ r ≤ 83521 ⌝ }
+    ensures { λ r. ⌜ r ≤ 1185921 ⌝ }
 {
     match n {
-        1 => 3,
-        2 => 25,
-        3 => 729,
-        _ => 83521,
+        1 => 5,
+        2 => 81,
+        3 => 4913,
+        _ => 1185921,
     }
 }
 
@@ -50,7 +49,7 @@ pub fn orders(n: usize) -> u32
 }
 
 // The digit of a place.
-pub fn digit(c: Case, place: usize) -> u32 {
+fn digit(c: Case, place: usize) -> u32 {
     let pile = c.pile;
     let b = base(c.n);
     match place {
@@ -59,6 +58,49 @@ pub fn digit(c: Case, place: usize) -> u32 {
         2 => pile / b / b % b,
         _ => pile / b / b / b % b,
     }
+}
+
+// Whether a place has no record.
+pub fn is_absent(c: Case, place: usize) -> bool {
+    digit(c, place) == 0
+}
+
+// The mourned set of a place's record.
+pub fn mourned(c: Case, place: usize) -> u32 {
+    let d = digit(c, place);
+    if d == 0 {
+        return 0;
+    }
+    (d - 1) / 2
+}
+
+// The kind of a place's record.
+pub fn kind(c: Case, place: usize) -> u8 {
+    if digit(c, place) % 2 == 1 {
+        return 1;
+    }
+    2
+}
+
+// Full for short, and short for full.
+pub fn other(kind: u8) -> u8 {
+    if kind == 1 {
+        return 2;
+    }
+    1
+}
+
+// Whether a place has no record of this kind.
+fn has_none(c: Case, place: usize, of: u8) -> bool {
+    if is_absent(c, place) {
+        return true;
+    }
+    kind(c, place) != of
+}
+
+// Whether no record is of this kind.
+pub fn lacks(c: Case, of: u8) -> bool {
+    has_none(c, 0, of) && has_none(c, 1, of) && has_none(c, 2, of) && has_none(c, 3, of)
 }
 
 // An order, four bits a place, the first lowest, with one more place put in at a position.
@@ -87,22 +129,26 @@ pub fn turn(c: Case, i: usize) -> usize {
     }
 }
 
-// A record as its place and its mourned set; nothing of one that is absent.
-fn say_record(c: Case, place: usize) {
-    let d = digit(c, place);
-    if d == 0 {
-        return;
-    }
+// A record as its kind, its place and its mourned set.
+pub fn say_parts(kind: u8, place: usize, mourned: u32) {
     say::text(b" ");
+    say::number(kind as u64);
+    say::text(b":");
     say::number(place as u64);
     say::text(b":");
-    say::number((d - 1) as u64);
+    say::number(mourned as u64);
+}
+
+// The record of a place, nothing where it is absent.
+fn say_record(c: Case, place: usize) {
+    if is_absent(c, place) {
+        return;
+    }
+    say_parts(kind(c, place), place, mourned(c, place));
 }
 
 pub fn say_case(c: Case) {
-    say::text(b"kind ");
-    say::number(c.kind as u64);
-    say::text(b" of ");
+    say::text(b"roster of ");
     say::number(c.n as u64);
     say::text(b", records");
     say_record(c, turn(c, 0));

@@ -1,4 +1,5 @@
 // The smallest and the largest counts, and serials alike. The large rosters are the multiples of 65536.
+use crate::cases;
 use crate::outcomes;
 use crate::outcomes::LAST;
 use crate::outcomes::NOT_LAST;
@@ -17,37 +18,33 @@ use rosters::Serial;
 
 const ALL: u64 = 18446744073709551615;
 
-fn open(t: Tally, kind: u8, list: &[u32], expected: u64) -> Tally {
-    let got = recovery::open(kind, list);
+fn open(t: Tally, list: &[u32], expected: u64) -> Tally {
+    let got = recovery::open(list);
     let answer = got.answer;
     tallies::called(
         t,
-        b"open, kind, length and first serial",
-        kind as u64,
+        b"open, length and first serial",
         list.len() as u64,
         stored::serial(list, 0) as u64,
+        0,
         expected,
         outcomes::opening(answer),
     )
 }
 
-// The faults 2, 3, 4, 5 of an opening, each over the whole.
+// The faults 3, 4, 5 of an opening, each over the whole.
 fn opens(t: Tally) -> Tally {
     let zeros = [0u32; 129];
     let twice = [7u32, 7, 0];
     let many = stored::multiples();
-    let t = open(t, 0, parts::of_many(&many, 0), 2);
-    let t = open(t, 3, &zeros, 2);
-    let t = open(t, 255, parts::of_many(&many, 1), 2);
-    let t = open(t, 1, parts::of_many(&many, 0), 3);
-    let t = open(t, 2, parts::of_many(&many, 129), 3);
-    let t = open(t, 1, &zeros, 3);
-    let t = open(t, 1, parts::numbers(&zeros, 128), 4);
-    let t = open(t, 2, &twice, 4);
-    let t = open(t, 2, parts::numbers(&twice, 2), 5);
-    let t = open(t, 1, parts::of_many(&many, 1), OPENED);
-    let t = open(t, 1, parts::of_many(&many, 128), OPENED);
-    open(t, 2, parts::of_many(&many, 128), OPENED)
+    let t = open(t, parts::of_many(&many, 0), 3);
+    let t = open(t, parts::of_many(&many, 129), 3);
+    let t = open(t, &zeros, 3);
+    let t = open(t, parts::numbers(&zeros, 128), 4);
+    let t = open(t, &twice, 4);
+    let t = open(t, parts::numbers(&twice, 2), 5);
+    let t = open(t, parts::of_many(&many, 1), OPENED);
+    open(t, parts::of_many(&many, 128), OPENED)
 }
 
 // Offers a record of some own serial with these two lists and these counts.
@@ -109,7 +106,7 @@ fn to_three(t: Tally, kind: u8) -> Tally {
     g.tally
 }
 
-// Records offered to a group of 128; at last the last place mourns all others.
+// Records offered to a group of 128; at last the last place, of the other kind, mourns all others.
 fn to_128(t: Tally, kind: u8) -> Tally {
     let many = stored::multiples();
     let none = parts::of_many(&many, 0);
@@ -125,6 +122,7 @@ fn to_128(t: Tally, kind: u8) -> Tally {
     let g = runs::ask(g, 0, OPEN);
     let g = runs::ask(g, 127, OPEN);
     let g = runs::ask(g, 128, 12);
+    let g = runs::turned(g, cases::other(kind));
     let g = offer(g, 8388608, 128, every, 127, others, TAKEN);
     let g = runs::unmourned(g, 0, 9223372036854775808, 1);
     let g = runs::ask(g, 0, NOT_LAST);

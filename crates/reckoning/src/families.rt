@@ -11,10 +11,13 @@ use crate::seconds;
 use crate::tallies;
 use crate::tallies::Tally;
 
-// What is tried of a pile: its records in every order and the answers then, or what is left then, or records in second serials after
-// it, or all that is shown and written in one order, with every matrix checked or a sample of them.
+// What is tried of a pile: its records in every order and the answers then, or only if they are of one kind, or in one order; or what
+// is left in every order; or records in second serials after it; or all that is shown and written in one order, with every matrix
+// checked or a sample of them.
 enum Trial {
     Orders,
+    OneKind,
+    OneOrder,
     Alike,
     Seconds,
     Histories,
@@ -30,19 +33,22 @@ fn one_order(list: &[u32], c: Case, alike: bool, t: Tally) -> Tally {
 }
 
 // The records of a pile in every order.
-fn orders(list: &[u32], kind: u8, n: usize, pile: u32, alike: bool, tally: Tally) -> Tally {
+fn orders(list: &[u32], n: usize, pile: u32, alike: bool, tally: Tally) -> Tally {
     let mut t = tally;
     let mut order = 0u32;
     while order < cases::orders(n) {
-        let c = Case {
-            kind,
-            n,
-            pile,
-            order,
-        };
+        let c = Case { n, pile, order };
         let next = one_order(list, c, alike, t);
         t = next;
         order += 1;
+    }
+    t
+}
+
+// The records of a pile in every order, unless both kinds are among them.
+fn of_one_kind(list: &[u32], c: Case, t: Tally) -> Tally {
+    if cases::lacks(c, 1) || cases::lacks(c, 2) {
+        return orders(list, c.n, c.pile, false, t);
     }
     t
 }
@@ -60,27 +66,28 @@ fn histories(list: &[u32], c: Case, tally: Tally, matrix: u32, history: usize) -
     buffers::listed(list, c, r, pile, t, c.pile as usize % history, history)
 }
 
-fn try_pile(list: &[u32], kind: u8, n: usize, pile: u32, trial: Trial, t: Tally) -> Tally {
+fn try_pile(list: &[u32], n: usize, pile: u32, trial: Trial, t: Tally) -> Tally {
     let c = Case {
-        kind,
         n,
         pile,
         order: pile % 24,
     };
     match trial {
-        Trial::Orders => orders(list, kind, n, pile, false, t),
-        Trial::Alike => orders(list, kind, n, pile, true, t),
+        Trial::Orders => orders(list, n, pile, false, t),
+        Trial::OneKind => of_one_kind(list, c, t),
+        Trial::OneOrder => piles::played(list, c, t),
+        Trial::Alike => orders(list, n, pile, true, t),
         Trial::Seconds => seconds::played(list, c, t),
         Trial::Histories => histories(list, c, t, 1, 1),
-        Trial::Sample => histories(list, c, t, 1021, 5),
+        Trial::Sample => histories(list, c, t, 8191, 37),
     }
 }
 
-fn all_piles(list: &[u32], kind: u8, n: usize, trial: Trial, tally: Tally) -> Tally {
+fn all_piles(list: &[u32], n: usize, trial: Trial, tally: Tally) -> Tally {
     let mut t = tally;
     let mut pile = 0u32;
     while pile < cases::piles(n) {
-        let next = try_pile(list, kind, n, pile, trial, t);
+        let next = try_pile(list, n, pile, trial, t);
         t = next;
         pile += 1;
     }
@@ -88,55 +95,53 @@ fn all_piles(list: &[u32], kind: u8, n: usize, trial: Trial, tally: Tally) -> Ta
 }
 
 // Every pile of a roster, beside the list of all its histories.
-fn roster(kind: u8, n: usize, trial: Trial, t: Tally) -> Tally {
+fn roster(n: usize, trial: Trial, t: Tally) -> Tally {
     let mut list = [0u32; 1024];
-    let count = matrices::gather(kind, n, &mut list);
-    all_piles(parts::of_listed(&list, count), kind, n, trial, t)
+    let count = matrices::gather(n, &mut list);
+    all_piles(parts::of_listed(&list, count), n, trial, t)
 }
 
-// Rosters of one, two and three places, in both kinds.
+// Rosters of one, two and three places.
 fn small_rosters(trial: Trial) -> Tally {
-    let t = tallies::none();
-    let t = roster(1, 1, trial, t);
-    let t = roster(1, 2, trial, t);
-    let t = roster(1, 3, trial, t);
-    let t = roster(2, 1, trial, t);
-    let t = roster(2, 2, trial, t);
-    roster(2, 3, trial, t)
+    let t = roster(1, trial, tallies::none());
+    let t = roster(2, trial, t);
+    roster(3, trial, t)
 }
 
 fn of_four(trial: Trial) -> Tally {
-    let t = tallies::none();
-    let t = roster(1, 4, trial, t);
-    roster(2, 4, trial, t)
+    roster(4, trial, tallies::none())
 }
 
 pub fn of_small_rosters() {
     tallies::report(
-        b"every pile of 1 to 3 places in every order",
+        b"every pile of 1 to 3 places of every mix of kinds in every order",
         small_rosters(Trial::Orders),
     );
     tallies::report(
-        b"every acceptable pile of 1 to 3 places in every order, recoveries compared",
+        b"every acceptable pile of 1 to 3 places of every mix of kinds in every order, recoveries compared",
         small_rosters(Trial::Alike),
     );
     tallies::report(
-        b"every pile of 1 to 3 places, shown, written and checked",
+        b"every pile of 1 to 3 places of every mix of kinds, shown, written and checked",
         small_rosters(Trial::Histories),
     );
     tallies::report(
-        b"every pile of 1 to 3 places, and after it every record in every mix of first and second serials",
+        b"every pile of 1 to 3 places of every mix of kinds, and after it every record of both kinds in every mix of first and second serials",
         small_rosters(Trial::Seconds),
     );
 }
 
 pub fn of_four_places() {
     tallies::report(
-        b"every pile of 4 places in every order",
-        of_four(Trial::Orders),
+        b"every pile of 4 places of one kind in every order",
+        of_four(Trial::OneKind),
     );
     tallies::report(
-        b"every pile of 4 places, shown, written and checked",
+        b"every pile of 4 places of every mix of kinds in one order",
+        of_four(Trial::OneOrder),
+    );
+    tallies::report(
+        b"every pile of 4 places of every mix of kinds, shown, written and checked",
         of_four(Trial::Sample),
     );
 }

@@ -16,7 +16,6 @@ use rosters::Serial;
 
 // A list of givings: a number in base 15, the first giving lowest; a digit is 5 times the place and one of the five serials.
 struct Case {
-    kind: u8,
     n: usize,
     list: u32,
 }
@@ -94,13 +93,13 @@ fn named(k: u32) -> u32 {
     }
 }
 
-// The parts of record number k: one of 6 rosters, 6 own serials, and 43 lists of up to two mourned serials.
+// The parts of record number k: one of 6 rosters, 6 own serials, 43 lists of up to two mourned serials, and a kind.
 fn own(k: u32) -> u32 {
     named(k / 6)
 }
 
 fn mourned(k: u32) -> Few {
-    let m = k / 36;
+    let m = k / 36 % 43;
     if m == 0 {
         return few(0, 0, 0);
     }
@@ -108,6 +107,13 @@ fn mourned(k: u32) -> Few {
         return few(1, named(m - 1), 0);
     }
     few(2, named((m - 7) / 6), named(m - 7))
+}
+
+fn kind(k: u32) -> u8 {
+    if k < 1548 {
+        return 1;
+    }
+    2
 }
 
 fn say_few(list: Few) {
@@ -136,9 +142,7 @@ fn say_giving(c: Case, i: usize) {
 }
 
 fn say_case(c: Case) {
-    say::text(b"kind ");
-    say::number(c.kind as u64);
-    say::text(b", given PLACE:SERIAL");
+    say::text(b"given PLACE:SERIAL");
     say_giving(c, 0);
     say_giving(c, 1);
     say_giving(c, 2);
@@ -161,7 +165,9 @@ fn held(t: Tally, c: Case, call: &[u8], about: u64, expected: u64, came: u64) ->
 fn held_record(t: Tally, c: Case, k: u32, expected: u64, came: u64) -> Tally {
     if tallies::is_first(t, expected, came) {
         say_case(c);
-        say::text(b", offer of roster");
+        say::text(b", offer of kind ");
+        say::number(kind(k) as u64);
+        say::text(b", roster");
         say_few(roster(k));
         say::text(b", own ");
         say::number(own(k) as u64);
@@ -174,7 +180,7 @@ fn held_record(t: Tally, c: Case, k: u32, expected: u64, came: u64) -> Tally {
 
 fn opened(c: Case, t: Tally) -> Stand {
     let list = [1u32, 2];
-    let got = recovery::open(c.kind, &list);
+    let got = recovery::open(&list);
     let answer = got.answer;
     let recovery = got.recovery;
     let boards = swaps::no_boards();
@@ -241,7 +247,7 @@ fn finds(c: Case, r: Recovery, b: Boards, tally: Tally) -> Tally {
 }
 
 // Lays record number k, and says how long it is.
-fn lay(kind: u8, k: u32, out: &mut [u8; 1100]) -> usize
+fn lay(k: u32, out: &mut [u8; 1100]) -> usize
     ensures { λ r. ⌜ r ≤ 1100 ⌝ }
 {
     let of = roster(k);
@@ -249,7 +255,7 @@ fn lay(kind: u8, k: u32, out: &mut [u8; 1100]) -> usize
     let serials = [of.a, of.b, of.c];
     let named = [heard.a, heard.b, heard.c];
     stored::lay(
-        kind,
+        kind(k),
         own(k),
         stored::byte(of.n),
         parts::numbers(&serials, of.n),
@@ -261,18 +267,18 @@ fn lay(kind: u8, k: u32, out: &mut [u8; 1100]) -> usize
 
 fn offer(c: Case, r: Recovery, b: Boards, t: Tally, k: u32) -> Tally {
     let mut bytes = [0u8; 1100];
-    let length = lay(c.kind, k, &mut bytes);
+    let length = lay(k, &mut bytes);
     let got = recovery::offer(r, parts::of_record(&bytes, length));
     let answer = got.answer;
     let expected = swaps::offered(b, roster(k), own(k), mourned(k));
     held_record(t, c, k, expected, outcomes::reply(answer))
 }
 
-// Offers every record.
+// Offers every record in both kinds.
 fn offers(c: Case, r: Recovery, b: Boards, tally: Tally) -> Tally {
     let mut t = tally;
     let mut k = 0u32;
-    while k < 1548 {
+    while k < 3096 {
         let next = offer(c, r, b, t, k);
         t = next;
         k += 1;
@@ -290,27 +296,23 @@ fn played(c: Case, t: Tally) -> Tally {
 }
 
 // Every list of n givings.
-fn of_length(kind: u8, n: usize, tally: Tally) -> Tally {
+fn of_length(n: usize, tally: Tally) -> Tally {
     let mut t = tally;
     let mut list = 0u32;
     while list < lists(n) {
-        let next = played(Case { kind, n, list }, t);
+        let next = played(Case { n, list }, t);
         t = next;
         list += 1;
     }
     t
 }
 
-fn of_kind(kind: u8, t: Tally) -> Tally {
-    let t = of_length(kind, 0, t);
-    let t = of_length(kind, 1, t);
-    let t = of_length(kind, 2, t);
-    of_length(kind, 3, t)
-}
-
 pub fn all() {
+    let t = of_length(0, tallies::none());
+    let t = of_length(1, t);
+    let t = of_length(2, t);
     tallies::report(
-        b"every list of up to 3 givings to 2 places, and after it every serial found and every record offered",
-        of_kind(2, of_kind(1, tallies::none())),
+        b"every list of up to 3 givings to 2 places, and after it every serial found and every record of both kinds offered",
+        of_length(3, t),
     );
 }

@@ -1,7 +1,7 @@
 // The public functions of a recovery beside a plain second reckoning, which lists all histories of a small roster and counts, place by
 // place, in how many of the fitting ones the place is last. One line for each family of cases; before it one for the first case that
-// differs, with all that it takes to repeat it: the kind, the roster's length, the records in order as PLACE:SET, the call, and both
-// outcomes. A set is the sum of its places' bits. Board swaps have a second reckoning of their own, of two places and few serials.
+// differs, with all that it takes to repeat it: the roster's length, the records in order as KIND:PLACE:SET, the call, and both outcomes.
+// A set is the sum of its places' bits. Board swaps have a second reckoning of their own, of two places and few serials.
 mod alike;
 mod boards;
 mod buffers;

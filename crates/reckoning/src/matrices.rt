@@ -1,9 +1,11 @@
 // The second reckoning: histories of at most four places, all of them, one after another. A history is a matrix of 16 bits: the row
-// of place q is the four bits from 4 q on, and place p its bit p.
+// of place q is the four bits from 4 q on, and place p its bit p. Listed, it has in its high half all bits of those rows that hold
+// everyone before their place.
 ghost use Prim.Native.Nat.{_≤_, _<_};
 use crate::outcomes;
 
-// What a pile fixes: all bits of the returned places' rows, and what they are.
+// What a pile fixes of a listed history: all bits of the returned places' rows, those of the full ones in the high half too, and what
+// they are.
 pub struct Pile {
     pub mask: u32,
     pub rows: u32,
@@ -120,19 +122,44 @@ fn joined(m: u32) -> u32 {
         | heard(m, row(m, 3)) << 12
 }
 
-// Whether a matrix is a history: no bit off the roster, no place before itself by a chain of up to four steps, and in the full kind
-// nothing in the rows of a row's members that is not in that row.
-pub fn is_history(kind: u8, n: usize, m: u32) -> bool {
+// Everyone before each place, by a chain of up to four steps.
+fn before(m: u32) -> u32 {
+    joined(joined(m))
+}
+
+// Whether a matrix is a history: no bit off the roster, and no place before itself.
+pub fn is_history(n: usize, m: u32) -> bool {
     if m & all_rows(n) != m {
         return false;
     }
-    if joined(joined(m)) & 0x8421 != 0 {
-        return false;
+    before(m) & 0x8421 == 0
+}
+
+// All bits of the row of place q where it holds everyone before q, else none.
+fn if_holds_all(m: u32, chains: u32, q: usize) -> u32 {
+    if row(m, q) == row(chains, q) {
+        return at_row(q, 15);
     }
-    if kind == 1 {
-        return joined(m) == m;
-    }
-    true
+    0
+}
+
+// All bits of the rows that hold everyone before their place.
+fn holding_all(m: u32) -> u32 {
+    let chains = before(m);
+    if_holds_all(m, chains, 0)
+        | if_holds_all(m, chains, 1)
+        | if_holds_all(m, chains, 2)
+        | if_holds_all(m, chains, 3)
+}
+
+// A history as it is listed.
+fn listed(m: u32) -> u32 {
+    m | holding_all(m) << 16
+}
+
+// The matrix of a listed history.
+fn matrix(m: u32) -> u32 {
+    m & 0xffff
 }
 
 fn put(out: &mut [u32; 1024], at: usize, m: u32) {
@@ -151,12 +178,12 @@ fn one_if(b: bool) -> usize
 }
 
 // All histories of a roster, and how many there are: 543 at most.
-pub fn gather(kind: u8, n: usize, out: &mut [u32; 1024]) -> usize {
+pub fn gather(n: usize, out: &mut [u32; 1024]) -> usize {
     let mut count = 0;
     let mut m = 0u32;
     while m < 65536 {
-        put(out, count, m);
-        let one = one_if(is_history(kind, n, m));
+        put(out, count, listed(m));
+        let one = one_if(is_history(n, m));
         count += one;
         m += 1;
     }
@@ -187,26 +214,49 @@ pub fn count(list: &[u32], mask: u32, rows: u32, empty: u32) -> usize {
     n
 }
 
-// The pile with a record of place p.
-pub fn with(pile: Pile, p: usize, mourned: u32) -> Pile {
-    Pile {
-        mask: pile.mask | at_row(p, 15),
-        rows: pile.rows | at_row(p, mourned),
+// The pile with a record of place p: its row is the mourned set, and holds everyone before p where the record is full.
+pub fn with(pile: Pile, kind: u8, p: usize, mourned: u32) -> Pile {
+    let bits = at_row(p, 15);
+    let mask = pile.mask | bits;
+    let rows = pile.rows | at_row(p, mourned);
+    if kind == 1 {
+        return Pile {
+            mask: mask | bits << 16,
+            rows: rows | bits << 16,
+        };
     }
+    Pile { mask, rows }
+}
+
+// The recorded rows, and empty ones for the places that are not back.
+pub fn rows(pile: Pile) -> u32 {
+    matrix(pile.rows)
+}
+
+// The kind of the record of place p.
+pub fn kind(pile: Pile, p: usize) -> u8 {
+    if pile.mask >> 16 & at_row(p, 15) == 0 {
+        return 2;
+    }
+    1
 }
 
 pub fn is_back(pile: Pile, p: usize) -> bool {
     pile.mask & at_row(p, 15) != 0
 }
 
-// Whether some history fits.
-pub fn some_fits(list: &[u32], pile: Pile) -> bool {
-    count(list, pile.mask, pile.rows, 0) != 0
+// How many histories fit.
+pub fn fitting(list: &[u32], pile: Pile) -> usize {
+    count(list, pile.mask, pile.rows, 0)
 }
 
-// The answer for a place: in how many of the fitting histories it is in nobody's row.
-pub fn answer(list: &[u32], pile: Pile, p: usize) -> u64 {
-    let all = count(list, pile.mask, pile.rows, 0);
+// Whether some history fits.
+pub fn some_fits(list: &[u32], pile: Pile) -> bool {
+    fitting(list, pile) != 0
+}
+
+// The answer for a place: in how many of all fitting histories it is in nobody's row.
+pub fn answer(list: &[u32], pile: Pile, all: usize, p: usize) -> u64 {
     let last = count(list, pile.mask, pile.rows, column(p));
     if last == all {
         return outcomes::LAST;
@@ -217,12 +267,20 @@ pub fn answer(list: &[u32], pile: Pile, p: usize) -> u64 {
     outcomes::OPEN
 }
 
-// Whether a matrix is listed and fits, and whether the place is then last in it.
-pub fn verdict(list: &[u32], pile: Pile, p: usize, m: u32) -> u64 {
-    if count(list, 0xffff_ffff, m, 0) == 0 {
+// Whether a matrix is a history that fits.
+pub fn fits(n: usize, pile: Pile, m: u32) -> bool {
+    if !is_history(n, m) {
+        return false;
+    }
+    listed(m) & pile.mask == pile.rows
+}
+
+// Whether a matrix is a history and fits, and whether the place is then last in it.
+pub fn verdict(n: usize, pile: Pile, p: usize, m: u32) -> u64 {
+    if !is_history(n, m) {
         return outcomes::NOTHING;
     }
-    if m & pile.mask != pile.rows {
+    if !fits(n, pile, m) {
         return outcomes::FITS_NOT;
     }
     if m & column(p) == 0 {
@@ -231,27 +289,20 @@ pub fn verdict(list: &[u32], pile: Pile, p: usize, m: u32) -> u64 {
     outcomes::NOT_LAST
 }
 
-// Whom place b has in its row once it heard place p: p, and in the full kind p's row.
-fn heard_row(kind: u8, pile: Pile, p: usize) -> u32 {
-    if kind == 1 {
-        return bit(p) | row(pile.rows, p);
-    }
-    bit(p)
-}
-
-// The recorded rows with that row for place b; 0 where b is back or p itself, or where that is no history.
-fn heard_by(list: &[u32], kind: u8, pile: Pile, p: usize, b: usize) -> u32 {
+// The recorded rows, and for place b a row with p and everyone before p; 0 where b is back or p itself, or where that does not fit.
+fn heard_by(n: usize, pile: Pile, p: usize, b: usize) -> u32 {
     if p == b {
         return 0;
     }
     if is_back(pile, b) {
         return 0;
     }
-    let m = pile.rows | at_row(b, heard_row(kind, pile, p));
-    if count(list, 0xffff_ffff, m, 0) == 0 {
-        return 0;
+    let known = rows(pile);
+    let m = known | at_row(b, bit(p) | row(before(known), p));
+    if fits(n, pile, m) {
+        return m;
     }
-    m
+    0
 }
 
 fn first_of(a: u32, b: u32) -> u32 {
@@ -261,22 +312,16 @@ fn first_of(a: u32, b: u32) -> u32 {
     b
 }
 
-// The same for the lowest place where it is a history; 0 where there is none.
-pub fn lowest_heard(list: &[u32], kind: u8, pile: Pile, p: usize) -> u32 {
-    let low = first_of(
-        heard_by(list, kind, pile, p, 0),
-        heard_by(list, kind, pile, p, 1),
-    );
-    let high = first_of(
-        heard_by(list, kind, pile, p, 2),
-        heard_by(list, kind, pile, p, 3),
-    );
+// The same for the lowest place where it fits; 0 where there is none.
+pub fn lowest_heard(n: usize, pile: Pile, p: usize) -> u32 {
+    let low = first_of(heard_by(n, pile, p, 0), heard_by(n, pile, p, 1));
+    let high = first_of(heard_by(n, pile, p, 2), heard_by(n, pile, p, 3));
     first_of(low, high)
 }
 
-// A matrix with the recorded rows put in.
+// The matrix of a listed history with the recorded rows put in.
 pub fn recorded(pile: Pile, m: u32) -> u32 {
-    (m & (0xffff ^ pile.mask)) | pile.rows
+    matrix((m & (0xffff_ffff ^ pile.mask)) | pile.rows)
 }
 
 // The places in no recorded row, as bits.

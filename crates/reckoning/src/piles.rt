@@ -4,6 +4,7 @@ use crate::cases::Case;
 use crate::matrices;
 use crate::matrices::Pile;
 use crate::outcomes;
+use crate::outcomes::OPEN;
 use crate::parts;
 use crate::stored;
 use crate::tallies::Tally;
@@ -20,7 +21,7 @@ pub struct Group {
 fn opened(c: Case, t: Tally) -> Group {
     let serials = stored::serials();
     let n = c.n;
-    let got = recovery::open(c.kind, parts::of_six(&serials, n));
+    let got = recovery::open(parts::of_six(&serials, n));
     let answer = got.answer;
     let recovery = got.recovery;
     let tally = cases::held(
@@ -40,17 +41,10 @@ fn opened(c: Case, t: Tally) -> Group {
 }
 
 // Offers the record of a place.
-pub fn offer(c: Case, r: Recovery, place: usize, mourned: u32) -> Offered {
+pub fn offer(n: usize, r: Recovery, kind: u8, place: usize, mourned: u32) -> Offered {
     let serials = stored::serials();
-    let n = c.n;
     let mut bytes = [0u8; 1100];
-    let length = stored::record(
-        c.kind,
-        place,
-        parts::of_six(&serials, n),
-        mourned,
-        &mut bytes,
-    );
+    let length = stored::record(kind, place, parts::of_six(&serials, n), mourned, &mut bytes);
     recovery::offer(r, parts::of_record(&bytes, length))
 }
 
@@ -72,17 +66,17 @@ fn after(pile: Pile, with: Pile, expected: u64) -> Pile {
 
 // The record of a place offered, unless it is absent.
 fn step(list: &[u32], c: Case, g: Group, place: usize) -> Group {
-    let digit = cases::digit(c, place);
-    if digit == 0 {
+    if cases::is_absent(c, place) {
         return g;
     }
-    let mourned = digit - 1;
+    let kind = cases::kind(c, place);
+    let mourned = cases::mourned(c, place);
     let old = g.recovery;
     let pile = g.pile;
     let tally = g.tally;
-    let with = matrices::with(pile, place, mourned);
+    let with = matrices::with(pile, kind, place, mourned);
     let expected = offered(list, with);
-    let got = offer(c, old, place, mourned);
+    let got = offer(c.n, old, kind, place, mourned);
     let answer = got.answer;
     let recovery = got.recovery;
     let next = cases::held(
@@ -113,41 +107,26 @@ pub fn offers(list: &[u32], c: Case, t: Tally) -> Group {
     g
 }
 
-fn ask(list: &[u32], c: Case, r: Recovery, pile: Pile, t: Tally, place: usize) -> Tally {
-    let expected = matrices::answer(list, pile, place);
+// What the pile says of a place, nothing where the roster ends before it.
+fn said(list: &[u32], n: usize, pile: Pile, all: usize, place: usize) -> u64 {
+    if n <= place {
+        return outcomes::NOTHING;
+    }
+    matrices::answer(list, pile, all, place)
+}
+
+fn ask(c: Case, r: Recovery, t: Tally, place: usize, expected: u64) -> Tally {
+    if c.n <= place {
+        return t;
+    }
     let got = recovery::ask(r, Place(place));
     cases::held(t, c, b"ask", place as u64, expected, outcomes::asked(got))
 }
 
-fn open_below(list: &[u32], pile: Pile, n: usize, place: usize) -> bool {
-    if n <= place {
-        return false;
-    }
-    matrices::answer(list, pile, place) == outcomes::OPEN
-}
-
-// Whether no place is open.
-fn settled(list: &[u32], pile: Pile, n: usize) -> bool {
-    if open_below(list, pile, n, 0) {
-        return false;
-    }
-    if open_below(list, pile, n, 1) {
-        return false;
-    }
-    if open_below(list, pile, n, 2) {
-        return false;
-    }
-    if open_below(list, pile, n, 3) {
-        return false;
-    }
-    true
-}
-
-// Both sets, the count, and whether the whole is settled.
-fn sets(list: &[u32], c: Case, r: Recovery, pile: Pile, t: Tally) -> Tally {
+// Both sets and the count.
+fn sets(c: Case, r: Recovery, pile: Pile, t: Tally) -> Tally {
     let all = matrices::unmourned(c.n, pile);
     let absent = matrices::unmourned_absent(c.n, pile);
-    let whole = settled(list, pile, c.n);
     let got = recovery::unmourned(r);
     let t = cases::held(t, c, b"unmourned", 0, all as u64, outcomes::set(got));
     let got = recovery::unmourned_absent(r);
@@ -160,31 +139,32 @@ fn sets(list: &[u32], c: Case, r: Recovery, pile: Pile, t: Tally) -> Tally {
         outcomes::set(got),
     );
     let got = recovery::unmourned_count(r);
-    let t = cases::held(t, c, b"count", 0, matrices::size(all) as u64, got as u64);
-    let got = recovery::settled(r);
-    cases::held(
-        t,
-        c,
-        b"settled",
-        0,
-        outcomes::truth(whole),
-        outcomes::truth(got),
-    )
+    cases::held(t, c, b"count", 0, matrices::size(all) as u64, got as u64)
 }
 
-// Every answer of a group.
+fn settled(c: Case, r: Recovery, t: Tally, expected: bool) -> Tally {
+    let whole = outcomes::truth(expected);
+    let got = recovery::settled(r);
+    cases::held(t, c, b"settled", 0, whole, outcomes::truth(got))
+}
+
+// Every answer of a group: the sets, whether the whole is settled, and each place.
 pub fn answers(list: &[u32], c: Case, g: Group) -> Tally {
     let r = g.recovery;
     let pile = g.pile;
     let tally = g.tally;
-    let mut t = sets(list, c, r, pile, tally);
-    let mut place = 0;
-    while place < c.n {
-        let next = ask(list, c, r, pile, t, place);
-        t = next;
-        place += 1;
-    }
-    t
+    let all = matrices::fitting(list, pile);
+    let of_0 = said(list, c.n, pile, all, 0);
+    let of_1 = said(list, c.n, pile, all, 1);
+    let of_2 = said(list, c.n, pile, all, 2);
+    let of_3 = said(list, c.n, pile, all, 3);
+    let whole = of_0 != OPEN && of_1 != OPEN && of_2 != OPEN && of_3 != OPEN;
+    let t = sets(c, r, pile, tally);
+    let t = settled(c, r, t, whole);
+    let t = ask(c, r, t, 0, of_0);
+    let t = ask(c, r, t, 1, of_1);
+    let t = ask(c, r, t, 2, of_2);
+    ask(c, r, t, 3, of_3)
 }
 
 // A case from its opening on.

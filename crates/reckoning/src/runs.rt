@@ -11,6 +11,7 @@ use places::Place;
 use recovery::Recovery;
 use rosters::Serial;
 
+// The kind is that of the records that are offered and written from here on.
 pub struct Run {
     pub case: u64,
     pub kind: u8,
@@ -25,10 +26,10 @@ fn held(g: Run, call: &[u8], a: u64, b: u64, expected: u64, came: u64) -> Tally 
     if tallies::is_first(t, expected, came) {
         say::text(b"case ");
         say::number(g.case);
+        say::text(b", roster of ");
+        say::number(g.n as u64);
         say::text(b", kind ");
         say::number(g.kind as u64);
-        say::text(b" of ");
-        say::number(g.n as u64);
         say::text(b", ");
         say::text(call);
         say::text(b" ");
@@ -54,16 +55,16 @@ fn after(g: Run, tally: Tally) -> Run {
 
 // Opens with a list of serials.
 pub fn opened_with(t: Tally, case: u64, kind: u8, list: &[u32]) -> Run {
-    let got = recovery::open(kind, list);
+    let got = recovery::open(list);
     let answer = got.answer;
     let recovery = got.recovery;
     let n = list.len();
     let tally = tallies::called(
         t,
-        b"open, case, kind and length",
+        b"open, case and length",
         case,
-        kind as u64,
         n as u64,
+        0,
         outcomes::OPENED,
         outcomes::opening(answer),
     );
@@ -82,6 +83,19 @@ pub fn opened(t: Tally, case: u64, kind: u8, n: usize) -> Run {
     opened_with(t, case, kind, parts::of_six(&serials, n))
 }
 
+// The run with records of another kind from here on.
+pub fn turned(g: Run, kind: u8) -> Run {
+    let recovery = g.recovery;
+    let tally = g.tally;
+    Run {
+        case: g.case,
+        kind,
+        n: g.n,
+        recovery,
+        tally,
+    }
+}
+
 // Offers bytes; the two numbers say which.
 pub fn send(g: Run, bytes: &[u8], a: u64, b: u64, expected: u64) -> Run {
     let old = g.recovery;
@@ -98,17 +112,10 @@ pub fn send(g: Run, bytes: &[u8], a: u64, b: u64, expected: u64) -> Run {
     }
 }
 
-// Offers the record of a place of some roster in some kind.
-pub fn offer_as(
-    g: Run,
-    kind: u8,
-    roster: &[u32],
-    place: usize,
-    mourned: u32,
-    expected: u64,
-) -> Run {
+// Offers the record of a place of some roster.
+pub fn offer_as(g: Run, roster: &[u32], place: usize, mourned: u32, expected: u64) -> Run {
     let mut bytes = [0u8; 1100];
-    let length = stored::record(kind, place, roster, mourned, &mut bytes);
+    let length = stored::record(g.kind, place, roster, mourned, &mut bytes);
     send(
         g,
         parts::of_record(&bytes, length),
@@ -120,17 +127,9 @@ pub fn offer_as(
 
 // Offers the record of a place that mourns a set.
 pub fn offer(g: Run, place: usize, mourned: u32, expected: u64) -> Run {
-    let kind = g.kind;
     let serials = stored::serials();
     let n = g.n;
-    offer_as(
-        g,
-        kind,
-        parts::of_six(&serials, n),
-        place,
-        mourned,
-        expected,
-    )
+    offer_as(g, parts::of_six(&serials, n), place, mourned, expected)
 }
 
 // The same, where its own serial is the first or the second one, and the mourned ones are second ones for a set of places.

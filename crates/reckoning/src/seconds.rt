@@ -18,8 +18,9 @@ use recovery::Offered;
 use recovery::Recovery;
 use rosters::Serial;
 
-// A record: its place, its mourned set, whether its own serial is the second one, and which of the mourned ones are.
+// A record: its kind, its place, its mourned set, whether its own serial is the second one, and which of the mourned ones are.
 struct Mixed {
+    kind: u8,
     place: usize,
     mourned: u32,
     second: bool,
@@ -38,10 +39,7 @@ fn held(t: Tally, c: Case, x: Mixed, call: &[u8], expected: u64, came: u64) -> T
         cases::say_case(c);
         say::text(b", ");
         say::text(call);
-        say::text(b" ");
-        say::number(x.place as u64);
-        say::text(b":");
-        say::number(x.mourned as u64);
+        cases::say_parts(x.kind, x.place, x.mourned);
         say::text(b", in second serials own ");
         say::number(outcomes::truth(x.second));
         say::text(b" and mourned ");
@@ -85,7 +83,7 @@ fn gives(c: Case, r: Recovery, t: Tally) -> Given {
 fn offer(c: Case, r: Recovery, x: Mixed) -> Offered {
     let mut bytes = [0u8; 1100];
     let length = stored::mixed(
-        c.kind,
+        x.kind,
         c.n,
         x.place,
         x.second,
@@ -99,7 +97,10 @@ fn offer(c: Case, r: Recovery, x: Mixed) -> Offered {
 // What the pile says of a record: repeated or 10 where its place is back, else taken or 11.
 fn answer(list: &[u32], pile: Pile, x: Mixed) -> u64 {
     if !matrices::is_back(pile, x.place) {
-        return piles::offered(list, matrices::with(pile, x.place, x.mourned));
+        return piles::offered(list, matrices::with(pile, x.kind, x.place, x.mourned));
+    }
+    if matrices::kind(pile, x.place) != x.kind {
+        return 10;
     }
     if matrices::row(pile.rows, x.place) == x.mourned {
         return outcomes::REPEATED;
@@ -114,7 +115,7 @@ fn write(c: Case, r: Recovery, t: Tally, x: Mixed) -> Tally {
     let roster = parts::of_six(&serials, n);
     let mut made = [0u8; 1100];
     let mut out = [0xaau8; 80];
-    let length = stored::record(c.kind, x.place, roster, x.mourned, &mut made);
+    let length = stored::record(x.kind, x.place, roster, x.mourned, &mut made);
     let got = recovery::write(r, Place(x.place), &mut out, 20);
     let end = 20 + length as u64;
     let t = held(t, c, x, b"write after", end, outcomes::writing(got));
@@ -129,7 +130,7 @@ fn beside(list: &[u32], c: Case, r: Recovery, pile: Pile, t: Tally, x: Mixed) ->
     let reply = got.answer;
     let left = got.recovery;
     let t = held(t, c, x, b"offer", expected, outcomes::reply(reply));
-    let first = piles::offer(c, r, x.place, x.mourned);
+    let first = piles::offer(c.n, r, x.kind, x.place, x.mourned);
     let plain = first.recovery;
     let equal = outcomes::truth(alike::same(plain, left));
     let t = held(t, c, x, b"left by first serials as by", 1, equal);
@@ -139,9 +140,10 @@ fn beside(list: &[u32], c: Case, r: Recovery, pile: Pile, t: Tally, x: Mixed) ->
     write(c, left, t, x)
 }
 
-// Record number k: a place, a mourned set, which of it are second serials, and whether the own one is.
+// Record number k: a place, a mourned set, which of it are second serials, whether the own one is, and a kind.
 fn record(k: u32) -> Mixed {
     Mixed {
+        kind: (1 + k / 512 % 2) as u8,
         place: (k % 4) as usize,
         mourned: k / 4 % 8,
         second: k / 256 % 2 == 1,
@@ -168,11 +170,11 @@ fn one(list: &[u32], c: Case, r: Recovery, pile: Pile, t: Tally, k: u32) -> Tall
     beside(list, c, r, pile, t, x)
 }
 
-// Every record of the roster, in every mix of its serials.
+// Every record of the roster, in both kinds and in every mix of its serials.
 fn records(list: &[u32], c: Case, r: Recovery, pile: Pile, tally: Tally) -> Tally {
     let mut t = tally;
     let mut k = 0u32;
-    while k < 512 {
+    while k < 1024 {
         let next = one(list, c, r, pile, t, k);
         t = next;
         k += 1;

@@ -26,9 +26,9 @@ fn day(kind: u8, n: usize) -> Day {
     got.day
 }
 
-fn group(kind: u8, n: usize) -> Recovery {
+fn group(n: usize) -> Recovery {
     let serials = stored::serials();
-    let got = recovery::open(kind, parts::of_three(&serials, n));
+    let got = recovery::open(parts::of_three(&serials, n));
     got.recovery
 }
 
@@ -137,7 +137,7 @@ fn allowed(d: Day, r: Recovery, kind: u8, n: usize, length: usize, tally: Tally)
 
 fn allowed_up_to(kind: u8, n: usize, tally: Tally) -> Tally {
     let d = day(kind, n);
-    let r = group(kind, n);
+    let r = group(n);
     let mut t = tally;
     let mut length = 0;
     while length < 8 {

@@ -1,20 +1,18 @@
 -- What a record that was read says of the bytes that it was read from. Assumes nothing.
-use mathlib.Core.Path.{_≡_, refl, sym, ap, ap₂, subst, _∙_}
-use mathlib.Core.List.{List, [], _++_}
+use mathlib.Core.Path.{_≡_, refl, sym, ap, subst, _∙_}
+use mathlib.Core.List.{List, [], _∷_, _++_}
 use Prim.Native.Nat.{ℕ, _+_, _-_, _*_, _≤_, _<_}
 use native.Mathlib.Omega.{arith}
-use lib.ListN.{length, take, drop, getD, length-append, length-drop}
-use lib.Seq.{take-at, getD-drop}
+use lib.ListN.{length, take, drop, length-append, length-drop}
+use lib.Seq.{take-at}
 use borrow.Author.Tests.{le-leb}
 use Rattle.places.specs.PlaceSets.{packed}
-use Rattle.histories.specs.declared.Kind.{Kind}
-use Rattle.histories.specs.declared.Kind.the-variants.{Full, Short}
-use Rattle.rosters.specs.Rosters.{IsRoster}
+use Rattle.rosters.specs.Rosters.{IsRoster, placeOf, holds, listed}
 use Rattle.rosters.proofs.Laws.{listed-sound}
 use Rattle.records.specs.declared.Record.{Record}
 use Rattle.records.specs.declared.Reading.the-variants.{Read}
 use Rattle.rosters.specs.Seconds.{itself}
-use Rattle.records.specs.Layout.{Parsed, got, refused, Stored, stored, knownKind, kindOf, kindByte}
+use Rattle.records.specs.Layout.{Parsed, got, refused, Stored, stored}
 use Rattle.records.specs.Records.{readingOf, reading, serials, rosterThere, copiable, copied}
 use Rattle.records.proofs.Layouts.{length-serials, stored-back}
 use Rattle.records.proofs.Trips.{serials-read, roster-within}
@@ -49,22 +47,12 @@ module _ (b : List ℕ) (at : ℕ) (x : Record) (e : reading itself b at ≡ Rea
   pub count-few : x .count ≤ 128
   count-few = omega (arith, count-is, sound .few)
 
-  pub starts-inside : at < length b
-  starts-inside = omega (arith, roster-within itself b at (read .it) (read .rest) (read .parsed))
-
   -- the record ends behind its start, within the bytes
   pub ends-inside : x .next ≤ length b
   ends-inside = omega (arith, ap (λ (y : Record). y .next) (read .is))
 
   roster-is : serials (x .count) (drop (x .roster) b) ≡ read .it .roster
   roster-is = subst (λ (y : Record). serials (y .count) (drop (y .roster) b) ≡ read .it .roster) (sym (read .is)) (serials-read itself b at (read .it) (read .rest) (read .parsed))
-
-  -- its kind byte stands at its start
-  kind-is : getD b at 0 ≡ kindByte (x .kind)
-  kind-is =
-      let h : getD (drop at b) 0 0 ≡ kindByte (read .it .kind) = ap (λ (l : List ℕ). getD l 0 0) (stored-back itself (drop at b) (read .it) (read .rest) (read .parsed) .heading .kind) in
-      let z : at + 0 ≡ at = omega arith in
-      ap (λ (n : ℕ). getD b n 0) (sym z) ∙ sym (getD-drop at b 0 0) ∙ h ∙ ap (λ (y : Record). kindByte (y .kind)) (sym (read .is))
 
   -- its roster can be copied
   copied-is : (list : List ℕ) → copied b (x .roster) (x .count) list ≡ serials (x .count) (drop (x .roster) b) ++ drop (x .count) list
@@ -85,20 +73,19 @@ module _ (b : List ℕ) (at : ℕ) (x : Record) (e : reading itself b at ≡ Rea
       ∙ take-at (serials (x .count) (drop (x .roster) b)) (drop (x .count) list) (x .count) (length-serials (x .count) (drop (x .roster) b))
 
 -- a roster opens a recovery
-opened-roster : (k : Kind) (s : List ℕ) → IsRoster s → opened (kindByte k) s .recovery ≡ fresh k s
-unfolding opened openedAs knownKind kindOf kindByte
-opened-roster Full s i = rw (listed-sound s .1 i)
-opened-roster Short s i = rw (listed-sound s .1 i)
+opened-roster : (s : List ℕ) → IsRoster s → opened s .recovery ≡ fresh s
+unfolding opened openedAs
+opened-roster s i = rw (listed-sound s .1 i)
 
 -- the recovery that the record opens
 pub opened-is : (b : List ℕ) (at : ℕ) (x : Record) → reading itself b at ≡ Read x → (list after : List ℕ) → after ≡ copied b (x .roster) (x .count) list
-    → (o : Opened) → o ≡ opened (getD b at 0) (take (x .count) after) → o .recovery ≡ fresh (x .kind) (serials (x .count) (drop (x .roster) b))
+    → (o : Opened) → o ≡ opened (take (x .count) after) → o .recovery ≡ fresh (serials (x .count) (drop (x .roster) b))
 opened-is b at x e list after f o g =
     ap (λ (z : Opened). z .recovery) g
-    ∙ ap₂ (λ (k : ℕ) (s : List ℕ). opened k s .recovery) (kind-is b at x e) (copied-front b at x e list after f)
-    ∙ opened-roster (x .kind) (serials (x .count) (drop (x .roster) b)) (subst IsRoster (sym (roster-is b at x e)) (sound b at x e))
+    ∙ ap (λ (s : List ℕ). opened s .recovery) (copied-front b at x e list after f)
+    ∙ opened-roster (serials (x .count) (drop (x .roster) b)) (subst IsRoster (sym (roster-is b at x e)) (sound b at x e))
 
--- no kind opens a recovery of no places
-pub unopened-is : (list : List ℕ) (o : Opened) → o ≡ opened 0 list → o .recovery ≡ fresh Full []
-unfolding opened unopened knownKind
-unopened-is list o g = ap (λ (z : Opened). z .recovery) g
+-- a serial of 0 opens a recovery of no places
+pub unopened-is : (list : List ℕ) (o : Opened) → list ≡ 0 ∷ [] → o ≡ opened list → o .recovery ≡ fresh []
+unfolding opened openedAs unopened listed holds placeOf
+unopened-is list o l g = ap (λ (z : Opened). z .recovery) (g ∙ ap opened l)

@@ -3,7 +3,6 @@ ghost use mathlib.Core.Path.{_≡_};
 ghost use mathlib.Core.List.{[]};
 ghost use Prim.Native.Nat.{_≤_};
 ghost use lib.ListN.{length, drop};
-ghost use Rattle.histories.specs.declared.Kind.the-variants as kind;
 ghost use Rattle.rosters.specs.Seconds.{itself};
 ghost use Rattle.records.specs.declared.Reading.the-variants as reading;
 ghost use Rattle.records.specs.Records.{reading, serials};
@@ -23,22 +22,22 @@ pub struct Finished {
 
 // A recovery of no places, as a refused opening gives it.
 fn unopened() -> Recovery
-    ensures { λ r. ⌜ r ≡ fresh kind.Full [] ⌝ }
+    ensures { λ r. ⌜ r ≡ fresh [] ⌝ }
 {
     let list = [0u32; 1];
-    let refused = recovery::open(0, &list);
+    let refused = recovery::open(&list);
     refused.recovery
 }
 
-// The recovery that the record at a position opens, with its kind and roster.
+// The recovery that the record at a position opens, with its roster.
 fn opened_by(bytes: &[u8], at: usize, x: Record) -> Recovery
     requires { ⌜ reading itself (now bytes) at ≡ reading.Read x ⌝ }
-    ensures { λ r. ⌜ r ≡ fresh (x .kind) (serials (x .count) (drop (x .roster) (now (bytes .entry)))) ⌝ }
+    ensures { λ r. ⌜ r ≡ fresh (serials (x .count) (drop (x .roster) (now (bytes .entry)))) ⌝ }
 {
     let mut list = [0u32; 128];
     let count = x.count;
     records::copy_roster(bytes, x.roster, count, &mut list);
-    let opened = recovery::open(bytes[at], &list[..count]);
+    let opened = recovery::open(&list[..count]);
     opened.recovery
 }
 
@@ -118,13 +117,13 @@ pub(crate) fn offer_all(input: &mut [u8], out: &mut [u8]) -> Finished
             recovery = opened_by(&input[..have], at, x);
             order = order_of(&recovery.serials, recovery.count);
         }
-        let kind = recovery.kind;
         let returned = recovery.returned;
+        let full = recovery.full;
         let answer = replies::judge(
-            kind,
             recovery.count,
             &recovery.serials,
             returned,
+            full,
             &recovery.rows,
             &input[..have],
             x,

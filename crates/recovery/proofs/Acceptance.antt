@@ -1,5 +1,5 @@
 -- The example of document 01, call by call, each with the outcome that it computes to, and what its records leave; after it the same group
--- with second serials (document 02, [2]). Assumes nothing.
+-- with second serials and records of both kinds (document 02, [2] and [3]). Assumes nothing.
 use mathlib.Core.Path.{_≡_, refl}
 use mathlib.Core.List.{List, [], _∷_, _++_, map}
 use Prim.Native.Nat.{ℕ}
@@ -7,12 +7,13 @@ use lib.ListN.{replicate}
 use Rattle.places.specs.Sets.{any, all, subset, same, count, lowest}
 use Rattle.places.specs.PlaceSets.{bit, has, word, packed}
 use Rattle.histories.specs.Rule as H
+use Rattle.histories.specs.Kept as K
 use Rattle.rosters.specs.Rosters.{placeOf, holds, firstRepeat, listed}
 use Rattle.rosters.specs.Seconds.{isSecond, countsAs, standsFor, finding}
 use Rattle.rows.specs.Rows.{noRows, rowAt, rowsOf, withRow, bytesFrom, rowBytes, putRow, rowIn, historyIn, rowsFrom, laid}
 use Rattle.records.specs.Layout as L
 use Rattle.records.specs.Records.{sameList, unwritten, putAt, writtenAt}
-use Rattle.answers.specs.Views.{size, acceptedIn}
+use Rattle.answers.specs.Views.{size, kindIn, acceptedIn}
 use Rattle.groups.specs.Groups.{isFound, aliasIn, foundAmong, giving}
 use Rattle.checks.specs.Checks.{offRoster}
 use Rattle.shows.specs.Shows.{unshown, replaced, shownOpen, shownAs, shownIn}
@@ -35,7 +36,7 @@ record-101 = (2 ∷ 0 ∷ 0 ∷ 0 ∷ 101 ∷ []) ++ group ++ (0 ∷ [])
 unfoldable pub record-104 : List ℕ
 record-104 = (2 ∷ 0 ∷ 0 ∷ 0 ∷ 104 ∷ []) ++ group ++ (2 ∷ 0 ∷ 0 ∷ 0 ∷ 102 ∷ 0 ∷ 0 ∷ 0 ∷ 103 ∷ [])
 
--- others: of the full kind, 101 mourning 102, and 102 mourning 104, which mourns it
+-- others: 101 mourning nobody in the full kind, 101 mourning 102, and 102 mourning 104, which mourns it
 unfoldable pub full-101 : List ℕ
 full-101 = (1 ∷ 0 ∷ 0 ∷ 0 ∷ 101 ∷ []) ++ group ++ (0 ∷ [])
 
@@ -67,6 +68,16 @@ second-102 = (2 ∷ 0 ∷ 0 ∷ 0 ∷ 202 ∷ []) ++ group ++ (1 ∷ 0 ∷ 0 ∷
 
 unfoldable pub record-102 : List ℕ
 record-102 = (2 ∷ 0 ∷ 0 ∷ 0 ∷ 102 ∷ []) ++ group ++ (1 ∷ 0 ∷ 0 ∷ 0 ∷ 101 ∷ [])
+
+-- in the full kind, 103 mourns 102, which mourns 101; then both; and both in the short kind
+unfoldable pub lacking-103 : List ℕ
+lacking-103 = (1 ∷ 0 ∷ 0 ∷ 0 ∷ 103 ∷ []) ++ group ++ (1 ∷ 0 ∷ 0 ∷ 0 ∷ 102 ∷ [])
+
+unfoldable pub full-103 : List ℕ
+full-103 = (1 ∷ 0 ∷ 0 ∷ 0 ∷ 103 ∷ []) ++ group ++ (2 ∷ 0 ∷ 0 ∷ 0 ∷ 101 ∷ 0 ∷ 0 ∷ 0 ∷ 102 ∷ [])
+
+unfoldable pub short-103 : List ℕ
+short-103 = (2 ∷ 0 ∷ 0 ∷ 0 ∷ 103 ∷ []) ++ group ++ (2 ∷ 0 ∷ 0 ∷ 0 ∷ 101 ∷ 0 ∷ 0 ∷ 0 ∷ 102 ∷ [])
 
 -- a row by its first byte
 unfoldable pub row : ℕ → List ℕ
@@ -105,7 +116,7 @@ lines =
     ∷ (find 105 ▸ says not-found)
     ∷ (offer record-101 ▸ says repeated)
     ∷ (offer (record-101 ++ (7 ∷ [])) ▸ says (refused 8))
-    ∷ (offer full-101 ▸ says (refused 9))
+    ∷ (offer full-101 ▸ says (refused 10))
     ∷ (offer other-101 ▸ says (refused 10))
     ∷ (offer circle-102 ▸ says (refused 11))
     ∷ (show 4 [] [] ▸ lent (refused 12) [] [])
@@ -147,17 +158,23 @@ lines =
     ∷ (write 1 (replicate 27 9) 0 ▸ lent-one (ends 27) record-102)
     ∷ (ask 0 ▸ says not-last)
     ∷ (ask 3 ▸ says is-last)
+    -- a full record beside the short ones
+    ∷ (offer lacking-103 ▸ says (refused 11))
+    ∷ (offer full-103 ▸ says taken)
+    ∷ (offer short-103 ▸ says (refused 10))
+    ∷ (offer full-103 ▸ says repeated)
+    ∷ (write 2 (replicate 31 9) 0 ▸ lent-one (ends 31) full-103)
     ∷ []
 
-pub opening : U.openingSays (C.opened 2 serials .answer) ≡ opened
-unfolding serials U.openingSays C.opened C.openedAs listed placeOf holds firstRepeat L.knownKind
+pub opening : U.openingSays (C.opened serials .answer) ≡ opened
+unfolding serials U.openingSays C.opened C.openedAs listed placeOf holds firstRepeat
 opening = refl
 
-pub listing : U.run (C.opened 2 serials .recovery) (map callOf lines) ≡ map outcomeOf lines
-unfolding serials group record-101 record-104 full-101 other-101 circle-102 second-104 twice-102 itself-103 other-roster second-102 record-102 row first-rows second-rows callOf outcomeOf lines U.run U.next U.outcome U.offerSays U.askedSays U.showingSays U.checkedSays U.writingSays U.foundSays U.givingSays U.shownGives U.writtenGives C.sizeOf C.rosterOf C.secondsOf C.aliasOf C.acceptedOf C.fresh C.openedAs C.opened sameKind C.ofGroup C.saying C.keeping C.answered entering C.entered C.judged C.offeredAs C.offered C.answerAt C.askedAs C.asked unshown replaced shownOpen shownAs shownIn C.shown offRoster C.checkedRows C.checked C.settledOf C.unmournedOf C.unmournedCountOf C.foundIn C.withSecond C.gaveAs C.given isFound aliasIn foundAmong giving C.recordOf C.writtenOf size acceptedIn L.then L.check L.byte L.serial L.knownKind L.kindOf L.kindSection L.rosterSerials L.rosterSection L.headSection L.mournedSerials L.mournedSection L.stored L.lone L.kindByte L.serialBytes L.serialsBytes L.chosen L.layout sameList unwritten putAt writtenAt placeOf holds isSecond countsAs standsFor finding firstRepeat listed noRows rowAt rowsOf withRow bytesFrom rowBytes putRow rowIn historyIn rowsFrom laid bit has word packed any all subset same count lowest H.recorded H.mourned H.reach H.before H.ruledOutBy H.blockersBy H.answerBy H.openAnswer H.settledBy H.inherited H.agrees H.accepts H.closedRows H.fitsTest
+pub listing : U.run (C.opened serials .recovery) (map callOf lines) ≡ map outcomeOf lines
+unfolding serials group record-101 record-104 full-101 other-101 circle-102 second-104 twice-102 itself-103 other-roster second-102 record-102 lacking-103 full-103 short-103 row first-rows second-rows callOf outcomeOf lines U.run U.next U.outcome U.offerSays U.askedSays U.showingSays U.checkedSays U.writingSays U.foundSays U.givingSays U.shownGives U.writtenGives C.sizeOf C.rosterOf C.secondsOf C.aliasOf C.acceptedOf C.fresh C.openedAs C.opened sameKind C.ofGroup C.saying C.keepingFull C.keepingRow C.keeping C.answered entering C.entered C.judged C.offeredAs C.offered C.answerAt C.askedAs C.asked unshown replaced shownOpen shownAs shownIn C.shown offRoster C.checkedRows C.checked C.settledOf C.unmournedOf C.unmournedCountOf C.foundIn C.withSecond C.gaveAs C.given isFound aliasIn foundAmong giving C.recordOf C.writtenOf size kindIn acceptedIn L.then L.check L.byte L.serial L.knownKind L.kindOf L.kindSection L.rosterSerials L.rosterSection L.headSection L.mournedSerials L.mournedSection L.stored L.lone L.kindByte L.serialBytes L.serialsBytes L.chosen L.layout sameList unwritten putAt writtenAt placeOf holds isSecond countsAs standsFor finding firstRepeat listed noRows rowAt rowsOf withRow bytesFrom rowBytes putRow rowIn historyIn rowsFrom laid bit has word packed any all subset same count lowest H.recorded H.mourned H.reach H.before H.isFull H.fullBack H.answerWith H.openAnswer H.noneOpen H.agrees H.accepts H.dutyMet H.fitsTest K.ruledOutBy K.blockersBy K.answerBy K.settledBy
 listing = refl
 
 -- its two records in either order, and one of them once more, leave one recovery
-pub either-order : U.left (C.opened 2 serials .recovery) (offer record-101 ∷ offer record-104 ∷ []) ≡ U.left (C.opened 2 serials .recovery) (offer record-104 ∷ offer record-101 ∷ offer record-104 ∷ [])
-unfolding serials group record-101 record-104 U.left U.next C.sizeOf C.rosterOf C.secondsOf C.aliasOf C.acceptedOf C.fresh C.openedAs C.opened sameKind C.ofGroup C.saying C.keeping C.answered entering C.entered C.judged C.offeredAs C.offered size acceptedIn L.then L.check L.byte L.serial L.knownKind L.kindOf L.kindSection L.rosterSerials L.rosterSection L.headSection L.mournedSerials L.mournedSection L.stored L.lone sameList placeOf holds isSecond countsAs standsFor firstRepeat listed noRows rowsOf withRow bytesFrom rowBytes putRow rowIn bit has word packed any all subset same H.recorded H.reach H.before H.accepts
+pub either-order : U.left (C.opened serials .recovery) (offer record-101 ∷ offer record-104 ∷ []) ≡ U.left (C.opened serials .recovery) (offer record-104 ∷ offer record-101 ∷ offer record-104 ∷ [])
+unfolding serials group record-101 record-104 U.left U.next C.sizeOf C.rosterOf C.secondsOf C.aliasOf C.acceptedOf C.fresh C.openedAs C.opened sameKind C.ofGroup C.saying C.keepingFull C.keepingRow C.keeping C.answered entering C.entered C.judged C.offeredAs C.offered size kindIn acceptedIn L.then L.check L.byte L.serial L.knownKind L.kindOf L.kindSection L.rosterSerials L.rosterSection L.headSection L.mournedSerials L.mournedSection L.stored L.lone sameList placeOf holds isSecond countsAs standsFor firstRepeat listed noRows rowsOf withRow bytesFrom rowBytes putRow rowIn bit has word packed any all subset same H.recorded H.reach H.before H.isFull H.fullBack H.agrees H.accepts
 either-order = refl

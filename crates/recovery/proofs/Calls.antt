@@ -1,6 +1,6 @@
 -- What each call gives, case by case: one law for each case, as the code meets it. Assumes nothing.
 use mathlib.Core.Path.{_≡_, refl, sym, ap, ap₂, _∙_}
-use mathlib.Core.Bool.{Bool, true, false, not, cond}
+use mathlib.Core.Bool.{Bool, true, false, not, cond, _&&_}
 use mathlib.Core.Logic.{_⊎_}
 use mathlib.Core.List.{List}
 use Prim.Native.Nat.{ℕ, _+_, _*_, _<_, _≤_}
@@ -10,9 +10,11 @@ use lib.Dec.{eqb, leb, ltb}
 use borrow.Author.Tests.{lt-ltb, le-ltb, le-leb, lt-leb, eq-eqb, ne-eqb}
 use Rattle.places.specs.Sets.{below, difference, with, same, lowest}
 use Rattle.places.specs.PlaceSets.{has}
-use Rattle.places.proofs.Booleans.{is-false, and-intro, and-left, and-right}
+use Rattle.places.proofs.Booleans.{is-false}
+use Rattle.histories.specs.declared.Kind.{Kind}
 use Rattle.histories.specs.Histories.{Row}
-use Rattle.histories.specs.Rule.{Answer, is-last, not-last, is-open, blockersBy, answerBy, settledBy, inherited, accepts, fitsTest}
+use Rattle.histories.specs.Rule.{Answer, is-last, not-last, is-open, before, accepts, fitsTest}
+use Rattle.histories.specs.Kept.{blockersBy, answerBy, settledBy}
 use Rattle.rows.specs.Rows.{rowsOf, historyIn, laid}
 use Rattle.records.specs.declared.Writing.the-variants as W
 use Rattle.records.specs.Layout.{got, refused, Stored, lone, layout}
@@ -33,21 +35,18 @@ use Rattle.groups.specs.declared.Giving.the-variants as Y
 use Rattle.groups.specs.Groups.{aliasIn, foundAmong, isFound, giving}
 use Rattle.groups.proofs.Laws.{give-off, give-zero, give-known, give-has, give-new}
 use Rattle.recovery.specs.Contracts.{sizeOf, rosterOf, secondsOf, aliasOf, acceptedOf, ofGroup, saying, keeping, answered, entered, judged, offeredAs, offered, answerAt, askedAs, asked, shown, checkedRows, checked, settledOf, unmournedOf, foundIn, withSecond, gaveAs, given, recordOf, writtenOf}
-use Rattle.recovery.proofs.Facts.{same-kind-elim, same-kind-self, same-list-self}
+use Rattle.recovery.proofs.Facts.{same-list-self}
 
 -- ---- offering
 
 -- the record is of this recovery's group
-pub group-elim : (r : Recovery) (x : Stored) → ofGroup r x ≡ true → (x .kind ≡ r .kind) × (x .roster ≡ rosterOf r)
+pub group-elim : (r : Recovery) (x : Stored) → ofGroup r x ≡ true → x .roster ≡ rosterOf r
 unfolding ofGroup
-group-elim r x e =
-    let k = sameKind (x .kind) (r .kind) in
-    let l = sameList (x .roster) (rosterOf r) in
-    (same-kind-elim (x .kind) (r .kind) (and-left k l e), same-list-elim (x .roster) (rosterOf r) (and-right k l e))
+group-elim r x e = same-list-elim (x .roster) (rosterOf r) e
 
-pub group-intro : (r : Recovery) (x : Stored) → x .kind ≡ r .kind → x .roster ≡ rosterOf r → ofGroup r x ≡ true
+pub group-intro : (r : Recovery) (x : Stored) → x .roster ≡ rosterOf r → ofGroup r x ≡ true
 unfolding ofGroup
-group-intro r x k s = and-intro (ap (sameKind (x .kind)) (sym k) ∙ same-kind-self (x .kind)) (ap (sameList (x .roster)) (sym s) ∙ same-list-self (x .roster))
+group-intro r x s = ap (sameList (x .roster)) (sym s) ∙ same-list-self (x .roster)
 
 module _ (r : Recovery) (bytes : List ℕ) where
   pub offered-faulty : (j : ℕ) → lone (aliasOf r) bytes ≡ refused j → offered r bytes ≡ saying r (O.Refused j)
@@ -55,55 +54,56 @@ module _ (r : Recovery) (bytes : List ℕ) where
   offered-faulty j e = ap (offeredAs r) e
 
   module _ (x : Stored) (rest : List ℕ) (e : lone (aliasOf r) bytes ≡ got x rest) where
-    pub offered-foreign : ¬ ((x .kind ≡ r .kind) × (x .roster ≡ rosterOf r)) → offered r bytes ≡ saying r (O.Refused 9)
+    pub offered-foreign : ¬ (x .roster ≡ rosterOf r) → offered r bytes ≡ saying r (O.Refused 9)
     unfolding offered offeredAs judged
     offered-foreign z =
-        ap (offeredAs r) e ∙ ap (λ (b : Bool). cond b (entered r (x .own) (x .mourned)) (saying r (O.Refused 9))) (is-false (ofGroup r x) (λ t. z (group-elim r x t)))
+        ap (offeredAs r) e ∙ ap (λ (b : Bool). cond b (entered r (x .own) (x .kind) (x .mourned)) (saying r (O.Refused 9))) (is-false (ofGroup r x) (λ t. z (group-elim r x t)))
 
-    pub offered-entered : x .kind ≡ r .kind → x .roster ≡ rosterOf r → offered r bytes ≡ entered r (x .own) (x .mourned)
+    pub offered-entered : x .roster ≡ rosterOf r → offered r bytes ≡ entered r (x .own) (x .kind) (x .mourned)
     unfolding offered offeredAs judged
-    offered-entered k s =
-        ap (offeredAs r) e ∙ ap (λ (b : Bool). cond b (entered r (x .own) (x .mourned)) (saying r (O.Refused 9))) (group-intro r x k s)
+    offered-entered s =
+        ap (offeredAs r) e ∙ ap (λ (b : Bool). cond b (entered r (x .own) (x .kind) (x .mourned)) (saying r (O.Refused 9))) (group-intro r x s)
 
 module _ (r : Recovery) {n : ℕ} (is : sizeOf r ≡ n) where
-  module _ (p : ℕ) (M : Row) where
+  module _ (p : ℕ) (k : Kind) (M : Row) where
     -- of one that is back
-    pub entered-again : acceptedOf r .returned p ≡ true → (t : Bool) → same n M (acceptedOf r .row p) ≡ t → entered r p M ≡ saying r (cond t O.Repeated (O.Refused 10))
+    pub entered-again : acceptedOf r .returned p ≡ true → (t : Bool) → sameKind k (acceptedOf r .kind p) && same n M (acceptedOf r .row p) ≡ t
+        → entered r p k M ≡ saying r (cond t O.Repeated (O.Refused 10))
     unfolding entered answered acceptedOf sizeOf
     entered-again b t e =
-        ap (answered r p M) (sym (entering-back (r .kind) (r .count) (has (r .returned)) (r .rows) p M b))
-        ∙ ap (λ (m : ℕ). answered r p M (cond (same m M (acceptedOf r .row p)) O.Repeated (O.Refused 10))) is
-        ∙ ap (λ (c : Bool). answered r p M (cond c O.Repeated (O.Refused 10))) e ∙ left t
+        ap (answered r p k M) (sym (entering-back (r .count) (has (r .returned)) (has (r .full)) (r .rows) p k M b))
+        ∙ ap (λ (m : ℕ). answered r p k M (cond (sameKind k (acceptedOf r .kind p) && same m M (acceptedOf r .row p)) O.Repeated (O.Refused 10))) is
+        ∙ ap (λ (c : Bool). answered r p k M (cond c O.Repeated (O.Refused 10))) e ∙ left t
       where
-        left : (t : Bool) → answered r p M (cond t O.Repeated (O.Refused 10)) ≡ saying r (cond t O.Repeated (O.Refused 10))
+        left : (t : Bool) → answered r p k M (cond t O.Repeated (O.Refused 10)) ≡ saying r (cond t O.Repeated (O.Refused 10))
         left true = refl
         left false = refl
 
     -- of another
-    pub entered-new : acceptedOf r .returned p ≡ false → (t : Bool) → accepts (r .kind) n (acceptedOf r) p M ≡ t
-        → entered r p M ≡ cond t (record { answer = O.Taken; recovery = keeping r p M }) (saying r (O.Refused 11))
+    pub entered-new : acceptedOf r .returned p ≡ false → (t : Bool) → accepts n (acceptedOf r) p k M ≡ t
+        → entered r p k M ≡ cond t (record { answer = O.Taken; recovery = keeping r p k M }) (saying r (O.Refused 11))
     unfolding entered answered acceptedOf sizeOf
     entered-new b t e =
-        ap (answered r p M) (sym (entering-new (r .kind) (r .count) (has (r .returned)) (r .rows) p M b _ refl))
-        ∙ ap (λ (m : ℕ). answered r p M (cond (accepts (r .kind) m (acceptedOf r) p M) O.Taken (O.Refused 11))) is
-        ∙ ap (λ (c : Bool). answered r p M (cond c O.Taken (O.Refused 11))) e ∙ left t
+        ap (answered r p k M) (sym (entering-new (r .count) (has (r .returned)) (has (r .full)) (r .rows) p k M b _ refl))
+        ∙ ap (λ (m : ℕ). answered r p k M (cond (accepts m (acceptedOf r) p k M) O.Taken (O.Refused 11))) is
+        ∙ ap (λ (c : Bool). answered r p k M (cond c O.Taken (O.Refused 11))) e ∙ left t
       where
         left : (t : Bool)
-            → answered r p M (cond t O.Taken (O.Refused 11)) ≡ cond t (record { answer = O.Taken; recovery = keeping r p M }) (saying r (O.Refused 11))
+            → answered r p k M (cond t O.Taken (O.Refused 11)) ≡ cond t (record { answer = O.Taken; recovery = keeping r p k M }) (saying r (O.Refused 11))
         left true = refl
         left false = refl
 
   -- ---- asking
 
-  answer-is : (i : ℕ) → answerAt r i ≡ answerBy (r .kind) n (acceptedOf r) (has (r .mourned)) i
+  answer-is : (i : ℕ) → answerAt r i ≡ answerBy n (acceptedOf r) (has (r .mourned)) (has (r .earlier)) i
   unfolding answerAt
-  answer-is i = ap (λ (m : ℕ). answerBy (r .kind) m (acceptedOf r) (has (r .mourned)) i) is
+  answer-is i = ap (λ (m : ℕ). answerBy m (acceptedOf r) (has (r .mourned)) (has (r .earlier)) i) is
 
   pub asked-off : (i : ℕ) → n ≤ i → asked r i ≡ A.Refused 12
   unfolding asked
-  asked-off i l = ap₂ (λ (m : ℕ) (a : Answer). cond (ltb i m) (askedAs a) (A.Refused 12)) is (answer-is i) ∙ ap (λ (b : Bool). cond b (askedAs (answerBy (r .kind) n (acceptedOf r) (has (r .mourned)) i)) (A.Refused 12)) (le-ltb i n l)
+  asked-off i l = ap₂ (λ (m : ℕ) (a : Answer). cond (ltb i m) (askedAs a) (A.Refused 12)) is (answer-is i) ∙ ap (λ (b : Bool). cond b (askedAs (answerBy n (acceptedOf r) (has (r .mourned)) (has (r .earlier)) i)) (A.Refused 12)) (le-ltb i n l)
 
-  pub asked-is : (i : ℕ) (a : Answer) → i < n → answerBy (r .kind) n (acceptedOf r) (has (r .mourned)) i ≡ a → asked r i ≡ askedAs a
+  pub asked-is : (i : ℕ) (a : Answer) → i < n → answerBy n (acceptedOf r) (has (r .mourned)) (has (r .earlier)) i ≡ a → asked r i ≡ askedAs a
   unfolding asked
   asked-is i a l e =
       ap₂ (λ (m : ℕ) (a : Answer). cond (ltb i m) (askedAs a) (A.Refused 12)) is (answer-is i ∙ e) ∙ ap (λ (b : Bool). cond b (askedAs a) (A.Refused 12)) (lt-ltb i n l)
@@ -111,26 +111,26 @@ module _ (r : Recovery) {n : ℕ} (is : sizeOf r ≡ n) where
   -- ---- showing
 
   module _ (i : ℕ) (a b : List ℕ) where
-    shown-is : shown r i a b ≡ shownIn (r .kind) n (acceptedOf r) (has (r .mourned)) (rowsOf (r .rows)) i a b
+    shown-is : shown r i a b ≡ shownIn n (acceptedOf r) (has (r .mourned)) (has (r .earlier)) (rowsOf (r .rows)) i a b
     unfolding shown
-    shown-is = ap (λ (m : ℕ). shownIn (r .kind) m (acceptedOf r) (has (r .mourned)) (rowsOf (r .rows)) i a b) is
+    shown-is = ap (λ (m : ℕ). shownIn m (acceptedOf r) (has (r .mourned)) (has (r .earlier)) (rowsOf (r .rows)) i a b) is
 
     pub shown-off : n ≤ i → shown r i a b ≡ unshown (S.Refused 12) a b
-    shown-off l = shown-is ∙ case.shown-off (r .kind) n (acceptedOf r) (has (r .mourned)) (rowsOf (r .rows)) i a b l
+    shown-off l = shown-is ∙ case.shown-off n (acceptedOf r) (has (r .mourned)) (has (r .earlier)) (rowsOf (r .rows)) i a b l
 
-    pub shown-last : i < n → answerBy (r .kind) n (acceptedOf r) (has (r .mourned)) i ≡ is-last → shown r i a b ≡ unshown S.Decided a b
-    shown-last l e = shown-is ∙ case.shown-last (r .kind) n (acceptedOf r) (has (r .mourned)) (rowsOf (r .rows)) i a b l e
+    pub shown-last : i < n → answerBy n (acceptedOf r) (has (r .mourned)) (has (r .earlier)) i ≡ is-last → shown r i a b ≡ unshown S.Decided a b
+    shown-last l e = shown-is ∙ case.shown-last n (acceptedOf r) (has (r .mourned)) (has (r .earlier)) (rowsOf (r .rows)) i a b l e
 
-    pub shown-not : i < n → answerBy (r .kind) n (acceptedOf r) (has (r .mourned)) i ≡ not-last → shown r i a b ≡ unshown S.Decided a b
-    shown-not l e = shown-is ∙ case.shown-not (r .kind) n (acceptedOf r) (has (r .mourned)) (rowsOf (r .rows)) i a b l e
+    pub shown-not : i < n → answerBy n (acceptedOf r) (has (r .mourned)) (has (r .earlier)) i ≡ not-last → shown r i a b ≡ unshown S.Decided a b
+    shown-not l e = shown-is ∙ case.shown-not n (acceptedOf r) (has (r .mourned)) (has (r .earlier)) (rowsOf (r .rows)) i a b l e
 
-    module _ (l : i < n) (e : answerBy (r .kind) n (acceptedOf r) (has (r .mourned)) i ≡ is-open) where
+    module _ (l : i < n) (e : answerBy n (acceptedOf r) (has (r .mourned)) (has (r .earlier)) i ≡ is-open) where
       pub shown-short : (length a < 16 * n) ⊎ (length b < 16 * n) → shown r i a b ≡ unshown (S.Refused 13) a b
-      shown-short s = shown-is ∙ case.shown-short (r .kind) n (acceptedOf r) (has (r .mourned)) (rowsOf (r .rows)) i a b l e s
+      shown-short s = shown-is ∙ case.shown-short n (acceptedOf r) (has (r .mourned)) (has (r .earlier)) (rowsOf (r .rows)) i a b l e s
 
       pub shown-both : 16 * n ≤ length a → 16 * n ≤ length b
-          → shown r i a b ≡ record { answer = S.Shown; first = laid n (rowsOf (r .rows)) a; second = laid n (replaced (rowsOf (r .rows)) (lowest n (blockersBy (r .kind) n (acceptedOf r) (has (r .mourned)) i)) (with i (inherited (r .kind) (acceptedOf r) i))) b }
-      shown-both u v = shown-is ∙ case.shown-both (r .kind) n (acceptedOf r) (has (r .mourned)) (rowsOf (r .rows)) i a b l e u v
+          → shown r i a b ≡ record { answer = S.Shown; first = laid n (rowsOf (r .rows)) a; second = laid n (replaced (rowsOf (r .rows)) (lowest n (blockersBy n (acceptedOf r) (has (r .earlier)) i)) (with i (before n (acceptedOf r) i))) b }
+      shown-both u v = shown-is ∙ case.shown-both n (acceptedOf r) (has (r .mourned)) (has (r .earlier)) (rowsOf (r .rows)) i a b l e u v
 
   -- ---- checking a lent history
 
@@ -141,24 +141,24 @@ module _ (r : Recovery) {n : ℕ} (is : sizeOf r ≡ n) where
         ap (λ (m : ℕ). cond (leb (16 * m) (length h)) (checkedRows r (historyIn m h)) (C.Refused 13)) is ∙ ap (λ (t : Bool). cond t (checkedRows r (historyIn n h)) (C.Refused 13)) (lt-leb (16 * n) (length h) l)
 
     module _ (l : 16 * n ≤ length h) where
-      rows-checked : checked r h ≡ cond (offRoster n (historyIn n h)) (C.Refused 15) (cond (fitsTest (r .kind) n (acceptedOf r) (historyIn n h)) C.Fits C.FitsNot)
+      rows-checked : checked r h ≡ cond (offRoster n (historyIn n h)) (C.Refused 15) (cond (fitsTest n (acceptedOf r) (historyIn n h)) C.Fits C.FitsNot)
       unfolding checked checkedRows
       rows-checked =
-          ap (λ (m : ℕ). cond (leb (16 * m) (length h)) (cond (offRoster m (historyIn m h)) (C.Refused 15) (cond (fitsTest (r .kind) m (acceptedOf r) (historyIn m h)) C.Fits C.FitsNot)) (C.Refused 13)) is
-          ∙ ap (λ (t : Bool). cond t (cond (offRoster n (historyIn n h)) (C.Refused 15) (cond (fitsTest (r .kind) n (acceptedOf r) (historyIn n h)) C.Fits C.FitsNot)) (C.Refused 13)) (le-leb (16 * n) (length h) l)
+          ap (λ (m : ℕ). cond (leb (16 * m) (length h)) (cond (offRoster m (historyIn m h)) (C.Refused 15) (cond (fitsTest m (acceptedOf r) (historyIn m h)) C.Fits C.FitsNot)) (C.Refused 13)) is
+          ∙ ap (λ (t : Bool). cond t (cond (offRoster n (historyIn n h)) (C.Refused 15) (cond (fitsTest n (acceptedOf r) (historyIn n h)) C.Fits C.FitsNot)) (C.Refused 13)) (le-leb (16 * n) (length h) l)
 
       pub checked-off : offRoster n (historyIn n h) ≡ true → checked r h ≡ C.Refused 15
-      checked-off e = rows-checked ∙ ap (λ (t : Bool). cond t (C.Refused 15) (cond (fitsTest (r .kind) n (acceptedOf r) (historyIn n h)) C.Fits C.FitsNot)) e
+      checked-off e = rows-checked ∙ ap (λ (t : Bool). cond t (C.Refused 15) (cond (fitsTest n (acceptedOf r) (historyIn n h)) C.Fits C.FitsNot)) e
 
-      pub checked-on : offRoster n (historyIn n h) ≡ false → (t : Bool) → fitsTest (r .kind) n (acceptedOf r) (historyIn n h) ≡ t → checked r h ≡ cond t C.Fits C.FitsNot
+      pub checked-on : offRoster n (historyIn n h) ≡ false → (t : Bool) → fitsTest n (acceptedOf r) (historyIn n h) ≡ t → checked r h ≡ cond t C.Fits C.FitsNot
       checked-on e t f =
           rows-checked ∙ ap₂ (λ (o t : Bool). cond o (C.Refused 15) (cond t C.Fits C.FitsNot)) e f
 
   -- ---- the whole, the two sets and the number
 
-  pub settled-is : settledOf r ≡ settledBy (r .kind) n (acceptedOf r) (has (r .mourned))
+  pub settled-is : settledOf r ≡ settledBy n (acceptedOf r) (has (r .mourned)) (has (r .earlier))
   unfolding settledOf
-  settled-is = ap (λ (m : ℕ). settledBy (r .kind) m (acceptedOf r) (has (r .mourned))) is
+  settled-is = ap (λ (m : ℕ). settledBy m (acceptedOf r) (has (r .mourned)) (has (r .earlier))) is
 
   pub unmourned-is : unmournedOf r ≡ difference (below n) (has (r .mourned))
   unfolding unmournedOf

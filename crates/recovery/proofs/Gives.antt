@@ -1,12 +1,12 @@
 -- What each call gives, one law for each way in which the code returns. Assumes nothing.
 use mathlib.Core.Path.{_≡_, refl, sym, ap, _∙_, fun-ext}
 use mathlib.Core.Bool.{Bool, true, false, not, cond, _&&_, _||_}
-use mathlib.Core.List.{List, _++_}
+use mathlib.Core.List.{List, [], _++_}
 use Prim.Native.Nat.{ℕ, _-_, _<_}
 use native.Mathlib.Omega.{arith}
 use lib.ListN.{length, getD, replicate}
 use lib.Dec.{eqb, ltb}
-use borrow.Author.Tests.{ltb-true, ne-eqb}
+use borrow.Author.Tests.{ltb-true}
 use Rattle.places.specs.Sets.{Places, nothing, below, union, difference, with, count}
 use Rattle.places.specs.PlaceSets.{has, kept, Words, packed}
 use Rattle.places.specs.declared.PlaceSet.{PlaceSet}
@@ -16,11 +16,11 @@ use Rattle.places.proofs.Laws.{packed-is, kept-has}
 use Rattle.histories.specs.declared.Kind.{Kind}
 use Rattle.histories.specs.declared.Kind.the-variants.{Full, Short}
 use Rattle.histories.specs.Rule as R
+use Rattle.histories.specs.Kept as K
 use Rattle.rosters.specs.Rosters.{listed}
 use Rattle.rosters.specs.declared.Listed.{Listed}
 use Rattle.rosters.specs.declared.Listed.the-variants as L
 use Rattle.rows.specs.Rows.{noRows, withRow}
-use Rattle.records.specs.Layout.{knownKind, kindOf}
 use Rattle.answers.specs.Views.{size, acceptedIn, answerOf}
 use Rattle.answers.specs.declared.Answer as declared
 use Rattle.answers.specs.declared.Answer.the-variants as B
@@ -34,7 +34,7 @@ use Rattle.recovery.specs.declared.Opening.the-variants as G
 use Rattle.recovery.specs.declared.Opened.{Opened}
 use Rattle.recovery.specs.declared.Asked.{Asked}
 use Rattle.recovery.specs.declared.Asked.the-variants as A
-use Rattle.recovery.specs.Contracts.{sizeOf, acceptedOf, fresh, unopened, openedAs, opened, keeping, askedAs, asked, unmournedOf, unmournedAbsentOf, unmournedCountOf, withSecond, gaveAs, given}
+use Rattle.recovery.specs.Contracts.{sizeOf, acceptedOf, fresh, unopened, openedAs, opened, keepingFull, keepingRow, keeping, askedAs, asked, unmournedOf, unmournedAbsentOf, unmournedCountOf, withSecond, gaveAs, given}
 
 -- ---- opening
 
@@ -42,51 +42,72 @@ use Rattle.recovery.specs.Contracts.{sizeOf, acceptedOf, fresh, unopened
 none-packed : (e : PlaceSet) → Words e → has e ≡ nothing → e ≡ packed nothing
 none-packed e w h = packed-is e nothing w h
 
-pub fresh-is : (k : Kind) (s serials : List ℕ) (e : PlaceSet) (w : List ℕ) → serials ≡ s ++ replicate (128 - length s) 0 → Words e → has e ≡ nothing → w ≡ noRows
-    → record { kind = k; count = length s; serials = serials; seconds = replicate 128 0; returned = e; mourned = e; rows = w } ≡ fresh k s
+pub fresh-is : (s serials : List ℕ) (e : PlaceSet) (w : List ℕ) → serials ≡ s ++ replicate (128 - length s) 0 → Words e → has e ≡ nothing → w ≡ noRows
+    → record { count = length s; serials = serials; seconds = replicate 128 0; returned = e; full = e; mourned = e; earlier = e; rows = w } ≡ fresh s
 unfolding fresh
-fresh-is k s serials e w p we he q = λ i. record { kind = k; count = length s; serials = p i; seconds = replicate 128 0; returned = none-packed e we he i; mourned = none-packed e we he i; rows = q i }
+fresh-is s serials e w p we he q = λ i. record {
+  count = length s;
+  serials = p i;
+  seconds = replicate 128 0;
+  returned = none-packed e we he i;
+  full = none-packed e we he i;
+  mourned = none-packed e we he i;
+  earlier = none-packed e we he i;
+  rows = q i;
+}
 
 pub unopened-is : (j : ℕ) (e : PlaceSet) (w : List ℕ) → Words e → has e ≡ nothing → w ≡ noRows
-    → record { answer = G.Refused j; recovery = record { kind = Full; count = 0; serials = replicate 128 0; seconds = replicate 128 0; returned = e; mourned = e; rows = w } } ≡ unopened j
-unfolding unopened fresh
-unopened-is j e w we he q = λ i. record { answer = G.Refused j; recovery = record { kind = Full; count = 0; serials = replicate 128 0; seconds = replicate 128 0; returned = none-packed e we he i; mourned = none-packed e we he i; rows = q i } }
+    → record { answer = G.Refused j; recovery = record { count = 0; serials = replicate 128 0; seconds = replicate 128 0; returned = e; full = e; mourned = e; earlier = e; rows = w } } ≡ unopened j
+unfolding unopened
+unopened-is j e w we he q = ap (λ (r : Recovery). record { answer = G.Refused j; recovery = r }) (fresh-is [] (replicate 128 0) e w refl we he q)
 
-pub opened-sound : (k : Kind) (s : List ℕ) (l : Listed) → l ≡ listed s → l ≡ L.Sound → record { answer = G.Opened; recovery = fresh k s } ≡ openedAs k s (listed s)
-unfolding openedAs
-opened-sound k s l e f = rw (sym e ∙ f)
+pub opened-sound : (s : List ℕ) (l : Listed) → l ≡ listed s → l ≡ L.Sound → record { answer = G.Opened; recovery = fresh s } ≡ opened s
+unfolding opened openedAs
+opened-sound s l e f = rw (sym e ∙ f)
 
-pub opened-refused : (k : Kind) (s : List ℕ) (l : Listed) (j : ℕ) → l ≡ listed s → l ≡ L.Refused j → unopened j ≡ openedAs k s (listed s)
-unfolding openedAs
-opened-refused k s l j e f = rw (sym e ∙ f)
-
-pub opened-full : (kind : ℕ) (s : List ℕ) → kind ≡ 1 → openedAs Full s (listed s) ≡ opened kind s
-unfolding opened knownKind kindOf
-opened-full kind s e = rw e
-
-pub opened-short : (kind : ℕ) (s : List ℕ) → kind ≡ 2 → openedAs Short s (listed s) ≡ opened kind s
-unfolding opened knownKind kindOf
-opened-short kind s e = rw e
-
-pub opened-unknown : (kind : ℕ) (s : List ℕ) → (kind ≡ 1 → ⊥) → (kind ≡ 2 → ⊥) → unopened 2 ≡ opened kind s
-unfolding opened knownKind
-opened-unknown kind s a b = rw (ne-eqb kind 1 a, ne-eqb kind 2 b)
+pub opened-refused : (s : List ℕ) (l : Listed) (j : ℕ) → l ≡ listed s → l ≡ L.Refused j → unopened j ≡ opened s
+unfolding opened openedAs
+opened-refused s l j e f = rw (sym e ∙ f)
 
 -- ---- keeping
 
-pub keep-is : (r : Recovery) (p : ℕ) (m w g : PlaceSet) (t : List ℕ) → Words m → Words w → Words g → has w ≡ kept (with p (has (r .returned)))
-    → has g ≡ union (has (r .mourned)) (has m) → t ≡ withRow (r .rows) p m
-    → record { kind = r .kind; count = r .count; serials = r .serials; seconds = r .seconds; returned = w; mourned = g; rows = t } ≡ keeping r p (has m)
-unfolding keeping
-keep-is r p m w g t hm hw hg e f q = λ i. record {
-  kind = r .kind;
-  count = r .count;
-  serials = r .serials;
-  seconds = r .seconds;
-  returned = packed-is w (with p (has (r .returned))) hw e i;
-  mourned = packed-is g (union (has (r .mourned)) (has m)) hg (sym (kept-has g) ∙ ap kept f) i;
-  rows = (q ∙ ap (withRow (r .rows) p) (packed-is m (has m) hm (sym (kept-has m)))) i;
-}
+module _ (r : Recovery) (p : ℕ) (m : PlaceSet) where
+  pub keep-full-is : (w g : PlaceSet) → Words w → Words g → has w ≡ kept (with p (has (r .full))) → has g ≡ union (has (r .earlier)) (has m)
+      → record { count = r .count; serials = r .serials; seconds = r .seconds; returned = r .returned; full = w; mourned = r .mourned; earlier = g; rows = r .rows } ≡ keepingFull r p (has m)
+  unfolding keepingFull
+  keep-full-is w g hw hg e f = λ i. record {
+    count = r .count;
+    serials = r .serials;
+    seconds = r .seconds;
+    returned = r .returned;
+    full = packed-is w (with p (has (r .full))) hw e i;
+    mourned = r .mourned;
+    earlier = packed-is g (union (has (r .earlier)) (has m)) hg (sym (kept-has g) ∙ ap kept f) i;
+    rows = r .rows;
+  }
+
+  pub keep-row-is : (w g : PlaceSet) (t : List ℕ) → Words m → Words w → Words g → has w ≡ kept (with p (has (r .returned)))
+      → has g ≡ union (has (r .mourned)) (has m) → t ≡ withRow (r .rows) p m
+      → record { count = r .count; serials = r .serials; seconds = r .seconds; returned = w; full = r .full; mourned = g; earlier = r .earlier; rows = t } ≡ keepingRow r p (has m)
+  unfolding keepingRow
+  keep-row-is w g t hm hw hg e f q = λ i. record {
+    count = r .count;
+    serials = r .serials;
+    seconds = r .seconds;
+    returned = packed-is w (with p (has (r .returned))) hw e i;
+    full = r .full;
+    mourned = packed-is g (union (has (r .mourned)) (has m)) hg (sym (kept-has g) ∙ ap kept f) i;
+    earlier = r .earlier;
+    rows = (q ∙ ap (withRow (r .rows) p) (packed-is m (has m) hm (sym (kept-has m)))) i;
+  }
+
+  pub keep-full : (k : Kind) (s t : Recovery) → k ≡ Full → s ≡ keepingFull r p (has m) → t ≡ keepingRow s p (has m) → t ≡ keeping r p k (has m)
+  unfolding keeping
+  keep-full k s t e f g = rw (e, g, f)
+
+  pub keep-short : (k : Kind) (t : Recovery) → k ≡ Short → t ≡ keepingRow r p (has m) → t ≡ keeping r p k (has m)
+  unfolding keeping
+  keep-short k t e g = rw (e, g)
 
 -- ---- giving
 
@@ -121,8 +142,8 @@ asked-words R.is-last = refl
 asked-words R.not-last = refl
 asked-words R.is-open = refl
 
-pub asked-on : (r : Recovery) (n : ℕ) → sizeOf r ≡ n → (i : ℕ) → i < n → (b : declared.Answer) → b ≡ answerOf (R.answerBy (r .kind) n (acceptedOf r) (has (r .mourned)) i) → askedOf b ≡ asked r i
-asked-on r n is i h b e = ap askedOf e ∙ asked-words (R.answerBy (r .kind) n (acceptedOf r) (has (r .mourned)) i) ∙ sym (asked-is r is i (R.answerBy (r .kind) n (acceptedOf r) (has (r .mourned)) i) h refl)
+pub asked-on : (r : Recovery) (n : ℕ) → sizeOf r ≡ n → (i : ℕ) → i < n → (b : declared.Answer) → b ≡ answerOf (K.answerBy n (acceptedOf r) (has (r .mourned)) (has (r .earlier)) i) → askedOf b ≡ asked r i
+asked-on r n is i h b e = ap askedOf e ∙ asked-words (K.answerBy n (acceptedOf r) (has (r .mourned)) (has (r .earlier)) i) ∙ sym (asked-is r is i (K.answerBy n (acceptedOf r) (has (r .mourned)) (has (r .earlier)) i) h refl)
 
 -- ---- the sets and the number
 

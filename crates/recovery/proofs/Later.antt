@@ -12,7 +12,7 @@ use Rattle.places.specs.PlaceSets.{packed}
 use Rattle.places.proofs.Booleans.{split, both-ways}
 use Rattle.histories.specs.declared.Kind.{Kind}
 use Rattle.histories.specs.Histories.{History, Accepted, Fits}
-use Rattle.histories.specs.Rule.{recorded, mourned}
+use Rattle.histories.specs.Rule.{recorded, mourned, reach, before, isFull, fullBack, beforeFull}
 use Rattle.histories.proofs.Fewer.{Within, fits-fewer, last-more, not-last-more, decided-more}
 use Rattle.rosters.specs.Seconds.{countsAs}
 use Rattle.rows.specs.Rows.{tableOf}
@@ -32,7 +32,7 @@ use Rattle.recovery.specs.Run.{offerSays, askedSays, showingSays, shownG
 use Rattle.recovery.specs.Run as run
 use Rattle.recovery.specs.Later.{Stays, offers, IsAccepted, Accepts, all, next}
 use Rattle.recovery.proofs.Demand.{Good, step, good-next, good-after, good-left}
-use Rattle.recovery.proofs.Dictated.{within-left, offers-none, grows, last-iff, not-last-iff, decided-elim, decided-intro, settled-iff, same-record, Agrees, agrees-accepted, Enters, accepted-enters}
+use Rattle.recovery.proofs.Dictated.{within-left, offers-none, grows, last-iff, not-last-iff, decided-elim, decided-intro, settled-iff, same-record, Agrees, Kinds, agrees-accepted, Enters, accepted-enters}
 
 -- ---- lists of calls
 
@@ -87,8 +87,8 @@ says-accepted a (inr e) = inr (ap (λ (a : Reply). says (offerSays a)) e)
 
 -- ---- what is decided stays decided
 
-module _ {k : Kind} {roster : List ℕ} {r : Recovery} (g : Good k roster r) (ds : List Call) where
-  later : Good k roster (left r ds)
+module _ {roster : List ℕ} {r : Recovery} (g : Good roster r) (ds : List Call) where
+  later : Good roster (left r ds)
   later = good-after g ds
 
   more : Within (acceptedOf r) (acceptedOf (left r ds))
@@ -116,13 +116,18 @@ module _ {k : Kind} {roster : List ℕ} {r : Recovery} (g : Good k roster r) (ds
 
 -- ---- records offered one after another
 
-module _ {k : Kind} {roster : List ℕ} {r : Recovery} (g : Good k roster r) (bytes : List ℕ) where
-  offered-good : Good k roster (offered r bytes .recovery)
+-- a history and kinds that the accepted records leave possible
+pub record Model (roster : List ℕ) (H : History) (K : ℕ → Kind) (r : Recovery) : Type 0 where
+  pub fits : Fits (length roster) (acceptedOf r) H
+  pub kinds : Kinds (acceptedOf r) K
+
+module _ {roster : List ℕ} {r : Recovery} (g : Good roster r) (bytes : List ℕ) where
+  offered-good : Good roster (offered r bytes .recovery)
   unfolding run.next
   offered-good = good-next g (offer bytes)
 
   -- one that was accepted
-  offered-enters : IsAccepted (offered r bytes .answer) → Enters k roster (ledgerOf r) (ledgerOf (offered r bytes .recovery)) bytes
+  offered-enters : IsAccepted (offered r bytes .answer) → Enters roster (ledgerOf r) (ledgerOf (offered r bytes .recovery)) bytes
   unfolding outcome run.next
   offered-enters a = accepted-enters (step g (offer bytes)) (says-accepted (offered r bytes .answer) a)
 
@@ -136,78 +141,101 @@ module _ {k : Kind} {roster : List ℕ} {r : Recovery} (g : Good k roster r) (by
   offered-seconds = offers-none (step g (offer bytes))
 
   -- one that agrees with a history that fits
-  offered-agrees : {H : History} → Fits k (length roster) (acceptedOf r) H → Agrees k roster (secondsOf r) H bytes
-      → IsAccepted (offered r bytes .answer) × Fits k (length roster) (acceptedOf (offered r bytes .recovery)) H
+  offered-agrees : {H : History} {K : ℕ → Kind} → Model roster H K r → Agrees roster (secondsOf r) H K bytes
+      → IsAccepted (offered r bytes .answer) × Model roster H K (offered r bytes .recovery)
   unfolding outcome run.next
-  offered-agrees f a = let w = agrees-accepted f a (step g (offer bytes)) in (accepted-said (offered r bytes .answer) (w .0), w .1)
+  offered-agrees m a = let w = agrees-accepted (m .fits) (m .kinds) a (step g (offer bytes)) in (accepted-said (offered r bytes .answer) (w .0), record { fits = w .1; kinds = w .2 })
 
--- records that all agree with one history that fits are all accepted, and it fits what is left
-pub agreeing-accepted : {k : Kind} {roster : List ℕ} {r : Recovery} {H : History} → Good k roster r → Fits k (length roster) (acceptedOf r) H
-    → (xs : List (List ℕ)) → ((x : List ℕ) → List·Memᴰ x xs → Agrees k roster (secondsOf r) H x) → Accepts r xs × Fits k (length roster) (acceptedOf (left r (offers xs))) H
+-- records that all agree with one history and kinds are all accepted, and leave these possible
+pub agreeing-accepted : {roster : List ℕ} {r : Recovery} {H : History} {K : ℕ → Kind} → Good roster r → Model roster H K r
+    → (xs : List (List ℕ)) → ((x : List ℕ) → List·Memᴰ x xs → Agrees roster (secondsOf r) H K x) → Accepts r xs × Model roster H K (left r (offers xs))
 unfolding left run.next
 agreeing-accepted g f [] a = (all, f)
-agreeing-accepted {k} {roster} {H = H} g f (x ∷ xs) a =
+agreeing-accepted {roster} {H = H} {K = K} g f (x ∷ xs) a =
     let w = offered-agrees g x f (a x (List·Memᴰ·head refl)) in
-    let v = agreeing-accepted (offered-good g x) (w .1) xs (λ y m. subst (λ (s : List ℕ). Agrees k roster s H y) (sym (offered-seconds g x)) (a y (List·Memᴰ·tail m))) in
+    let v = agreeing-accepted (offered-good g x) (w .1) xs (λ y m. subst (λ (s : List ℕ). Agrees roster s H K y) (sym (offered-seconds g x)) (a y (List·Memᴰ·tail m))) in
     (next (w .0) (v .0), v .1)
 
--- records that are all accepted agree with every history that fits what is left, and it fits what was there before
-abbrev Agreeing : Kind → List ℕ → History → Recovery → List (List ℕ) → Type 0
-Agreeing k roster H r xs = Fits k (length roster) (acceptedOf r) H × ((x : List ℕ) → List·Memᴰ x xs → Agrees k roster (secondsOf r) H x)
+-- records that are all accepted agree with every history and kinds that they leave possible, and these were possible before
+record Agreeing (roster : List ℕ) (H : History) (K : ℕ → Kind) (r : Recovery) (xs : List (List ℕ)) : Type 0 where
+  model : Model roster H K r
+  agree : (x : List ℕ) → List·Memᴰ x xs → Agrees roster (secondsOf r) H K x
 
-agree-next : {k : Kind} {roster : List ℕ} {r : Recovery} {H : History} {bytes : List ℕ} {xs : List (List ℕ)} → Good k roster r → IsAccepted (offered r bytes .answer)
-    → Agreeing k roster H (offered r bytes .recovery) xs → Agreeing k roster H r (bytes ∷ xs)
-agree-next {k} {roster} {r} {H} {bytes = b} {xs} g a w = (fits-fewer (offered-within g b) (w .0), λ x m. at x (List·Memᴰ·cases-cons m))
+agree-next : {roster : List ℕ} {r : Recovery} {H : History} {K : ℕ → Kind} {bytes : List ℕ} {xs : List (List ℕ)} → Good roster r → IsAccepted (offered r bytes .answer)
+    → Agreeing roster H K (offered r bytes .recovery) xs → Agreeing roster H K r (bytes ∷ xs)
+agree-next {roster} {r} {H} {K} {bytes = b} {xs} g a w = record {
+  model = record { fits = fits-fewer (offered-within g b) (m .fits); kinds = λ p e. let v = offered-within g b in sym (v .kind p e) ∙ m .kinds p (v .returned p e) };
+  agree = λ x m. at x (List·Memᴰ·cases-cons m);
+}
   where
-    e : Enters k roster (ledgerOf r) (ledgerOf (offered r b .recovery)) b
+    m : Model roster H K (offered r b .recovery)
+    m = w .model
+
+    e : Enters roster (ledgerOf r) (ledgerOf (offered r b .recovery)) b
     e = offered-enters g b a
 
-    at : (x : List ℕ) → (x ≡ b) ⊎ List·Memᴰ x xs → Agrees k roster (secondsOf r) H x
-    at x (inl h) = subst (Agrees k roster (secondsOf r) H) (sym h) (record { stored = e .stored; of-group = e .of-group; row = fun-ext (w .0 .recorded (e .stored .own) (e .back)) ∙ e .row })
-    at x (inr m) = subst (λ (s : List ℕ). Agrees k roster s H x) (offered-seconds g b) (w .1 x m)
+    p : ℕ
+    p = e .stored .own
 
-accepted-agree : {k : Kind} {roster : List ℕ} {r : Recovery} {H : History} {xs : List (List ℕ)} → Good k roster r → Accepts r xs → Fits k (length roster) (acceptedOf (left r (offers xs))) H
-    → Agreeing k roster H r xs
+    this : Agrees roster (secondsOf r) H K b
+    this = record {
+      stored = e .stored;
+      of-group = e .of-group;
+      kind = sym (e .kind) ∙ m .kinds p (e .back);
+      row = fun-ext (m .fits .recorded p (e .back)) ∙ e .row;
+      duty = λ k q. m .fits .duty p (e .back) (e .kind ∙ k) q;
+    }
+
+    at : (x : List ℕ) → (x ≡ b) ⊎ List·Memᴰ x xs → Agrees roster (secondsOf r) H K x
+    at x (inl h) = subst (Agrees roster (secondsOf r) H K) (sym h) this
+    at x (inr m) = subst (λ (s : List ℕ). Agrees roster s H K x) (offered-seconds g b) (w .agree x m)
+
+accepted-agree : {roster : List ℕ} {r : Recovery} {H : History} {K : ℕ → Kind} {xs : List (List ℕ)} → Good roster r → Accepts r xs → Model roster H K (left r (offers xs))
+    → Agreeing roster H K r xs
 unfolding left run.next
-accepted-agree g all f = (f, λ x m. absurd (List·Memᴰ·not-nil m))
+accepted-agree g all f = record { model = f; agree = λ x m. absurd (List·Memᴰ·not-nil m) }
 accepted-agree g (next {bytes = b} a rest) f = agree-next g a (accepted-agree (offered-good g b) rest f)
 
+-- what a recovery holds is possible
+own-model : {roster : List ℕ} {r : Recovery} (g : Good roster r) → Model roster (g .some) (acceptedOf r .kind) r
+own-model g = record { fits = g .fits; kinds = λ p e. refl }
+
 -- p is back by one of these records
-record BackBy (k : Kind) (roster seconds : List ℕ) (xs : List (List ℕ)) (p : ℕ) : Type 0 where
+record BackBy (roster seconds : List ℕ) (xs : List (List ℕ)) (p : ℕ) : Type 0 where
   bytes : List ℕ
   among : List·Memᴰ bytes xs
   stored : Stored
-  of-group : OfGroup k roster seconds bytes stored
+  of-group : OfGroup roster seconds bytes stored
   own : p ≡ stored .own
 
-back-among : {k : Kind} {roster seconds : List ℕ} {xs ys : List (List ℕ)} {p : ℕ} → ((x : List ℕ) → List·Memᴰ x xs → List·Memᴰ x ys) → BackBy k roster seconds xs p → BackBy k roster seconds ys p
+back-among : {roster seconds : List ℕ} {xs ys : List (List ℕ)} {p : ℕ} → ((x : List ℕ) → List·Memᴰ x xs → List·Memᴰ x ys) → BackBy roster seconds xs p → BackBy roster seconds ys p
 back-among sub w = record { bytes = w .bytes; among = sub (w .bytes) (w .among); stored = w .stored; of-group = w .of-group; own = w .own }
 
 -- who is back then: who was before, and those whose records they are
-accepted-back : {k : Kind} {roster : List ℕ} {r : Recovery} {xs : List (List ℕ)} → Good k roster r → Accepts r xs → (p : ℕ) → acceptedOf (left r (offers xs)) .returned p ≡ true
-    → (acceptedOf r .returned p ≡ true) ⊎ BackBy k roster (secondsOf r) xs p
+accepted-back : {roster : List ℕ} {r : Recovery} {xs : List (List ℕ)} → Good roster r → Accepts r xs → (p : ℕ) → acceptedOf (left r (offers xs)) .returned p ≡ true
+    → (acceptedOf r .returned p ≡ true) ⊎ BackBy roster (secondsOf r) xs p
 unfolding left run.next
 accepted-back g all p e = inl e
-accepted-back {k} {roster} {r} g (next {bytes = b} {xs = xs} a rest) p e = go (accepted-back (offered-good g b) rest p e)
+accepted-back {roster} {r} g (next {bytes = b} {xs = xs} a rest) p e = go (accepted-back (offered-good g b) rest p e)
   where
-    w : Enters k roster (ledgerOf r) (ledgerOf (offered r b .recovery)) b
+    w : Enters roster (ledgerOf r) (ledgerOf (offered r b .recovery)) b
     w = offered-enters g b a
 
-    new : (acceptedOf r .returned p ≡ true) ⊎ (p ≡ w .stored .own) → (acceptedOf r .returned p ≡ true) ⊎ BackBy k roster (secondsOf r) (b ∷ xs) p
+    new : (acceptedOf r .returned p ≡ true) ⊎ (p ≡ w .stored .own) → (acceptedOf r .returned p ≡ true) ⊎ BackBy roster (secondsOf r) (b ∷ xs) p
     new (inl h) = inl h
     new (inr h) = inr (record { bytes = b; among = List·Memᴰ·head refl; stored = w .stored; of-group = w .of-group; own = h })
 
-    go : (acceptedOf (offered r b .recovery) .returned p ≡ true) ⊎ BackBy k roster (secondsOf (offered r b .recovery)) xs p → (acceptedOf r .returned p ≡ true) ⊎ BackBy k roster (secondsOf r) (b ∷ xs) p
+    go : (acceptedOf (offered r b .recovery) .returned p ≡ true) ⊎ BackBy roster (secondsOf (offered r b .recovery)) xs p → (acceptedOf r .returned p ≡ true) ⊎ BackBy roster (secondsOf r) (b ∷ xs) p
     go (inl h) = new (w .only p h)
-    go (inr h) = inr (subst (λ (s : List ℕ). BackBy k roster s (b ∷ xs) p) (offered-seconds g b) (back-among (λ x m. List·Memᴰ·tail m) h))
+    go (inr h) = inr (subst (λ (s : List ℕ). BackBy roster s (b ∷ xs) p) (offered-seconds g b) (back-among (λ x m. List·Memᴰ·tail m) h))
 
-back-accepted : {k : Kind} {roster : List ℕ} {r : Recovery} {xs : List (List ℕ)} → Good k roster r → Accepts r xs → (p : ℕ) → BackBy k roster (secondsOf r) xs p → acceptedOf (left r (offers xs)) .returned p ≡ true
+back-accepted : {roster : List ℕ} {r : Recovery} {xs : List (List ℕ)} → Good roster r → Accepts r xs → (p : ℕ) → BackBy roster (secondsOf r) xs p → acceptedOf (left r (offers xs)) .returned p ≡ true
 unfolding left run.next
 back-accepted g all p v = absurd (List·Memᴰ·not-nil (v .among))
-back-accepted {k} {roster} {r} g (next {bytes = b} {xs = xs} a rest) p v =
-    go (λ m. back-accepted (offered-good g b) rest p (subst (λ (s : List ℕ). BackBy k roster s xs p) (sym (offered-seconds g b)) (record { bytes = v .bytes; among = m; stored = v .stored; of-group = v .of-group; own = v .own }))) (List·Memᴰ·cases-cons (v .among))
+back-accepted {roster} {r} g (next {bytes = b} {xs = xs} a rest) p v =
+    go (λ m. back-accepted (offered-good g b) rest p (subst (λ (s : List ℕ). BackBy roster s xs p) (sym (offered-seconds g b)) (record { bytes = v .bytes; among = m; stored = v .stored; of-group = v .of-group; own = v .own }))) (List·Memᴰ·cases-cons (v .among))
   where
-    w : Enters k roster (ledgerOf r) (ledgerOf (offered r b .recovery)) b
+    w : Enters roster (ledgerOf r) (ledgerOf (offered r b .recovery)) b
     w = offered-enters g b a
 
     Back : Type 0
@@ -221,49 +249,51 @@ back-accepted {k} {roster} {r} g (next {bytes = b} {xs = xs} a rest) p v =
 
 -- ---- the same records leave the same
 
--- two recoveries that hold their records and second serials are equal where these are, and the same are back with the same rows
-module _ {k : Kind} {roster : List ℕ} {r s : Recovery} (g : Good k roster r) (h : Good k roster s) where
-  rows-equal : secondsOf r ≡ secondsOf s → acceptedOf r .returned ≡ acceptedOf s .returned → recorded (acceptedOf r) ≡ recorded (acceptedOf s) → r ≡ s
-  unfolding holding mourned
-  rows-equal d b e = g .held .is ∙ between ∙ sym (h .held .is)
+-- two recoveries that hold their records and second serials are equal where these are, and the same are back, full and with the same rows
+module _ {roster : List ℕ} {r s : Recovery} (g : Good roster r) (h : Good roster s) where
+  rows-equal : secondsOf r ≡ secondsOf s → acceptedOf r .returned ≡ acceptedOf s .returned → fullBack (acceptedOf r) ≡ fullBack (acceptedOf s)
+      → recorded (acceptedOf r) ≡ recorded (acceptedOf s) → r ≡ s
+  unfolding holding mourned beforeFull before
+  rows-equal d b f e = g .held .is ∙ between ∙ sym (h .held .is)
     where
-      between : holding k roster (secondsOf r) (acceptedOf r) ≡ holding k roster (secondsOf s) (acceptedOf s)
+      between : holding roster (secondsOf r) (acceptedOf r) ≡ holding roster (secondsOf s) (acceptedOf s)
       between = λ i. record {
-        kind = k;
         count = length roster;
         serials = roster ++ replicate (128 - length roster) 0;
         seconds = d i ++ replicate (128 - length (d i)) 0;
         returned = packed (b i);
+        full = packed (f i);
         mourned = packed (λ q. any (length roster) (λ p. e i p q));
+        earlier = packed (λ q. any (length roster) (λ p. f i p && reach (length roster) (e i) p q));
         rows = tableOf (e i);
       }
 
   ledgers-equal : secondsOf r ≡ secondsOf s → acceptedOf r ≡ acceptedOf s → r ≡ s
-  ledgers-equal d e = g .held .is ∙ ap₂ (holding k roster) d e ∙ sym (h .held .is)
+  ledgers-equal d e = g .held .is ∙ ap₂ (holding roster) d e ∙ sym (h .held .is)
 
 -- records give no second serial
-offers-left : {k : Kind} {roster : List ℕ} {r : Recovery} → Good k roster r → (xs : List (List ℕ)) → secondsOf (left r (offers xs)) ≡ secondsOf r
+offers-left : {roster : List ℕ} {r : Recovery} → Good roster r → (xs : List (List ℕ)) → secondsOf (left r (offers xs)) ≡ secondsOf r
 unfolding left run.next
 offers-left g [] = refl
 offers-left g (x ∷ xs) = offers-left (offered-good g x) xs ∙ offered-seconds g x
 
-module _ {k : Kind} {roster : List ℕ} {r : Recovery} (g : Good k roster r) {xs ys : List (List ℕ)} where
+module _ {roster : List ℕ} {r : Recovery} (g : Good roster r) {xs ys : List (List ℕ)} where
   -- of records that are all accepted, any are accepted in any order, however often
   any-accepted : Accepts r xs → ((x : List ℕ) → List·Memᴰ x ys → List·Memᴰ x xs) → Accepts r ys
   any-accepted a sub =
       let l = good-after g (offers xs) in
-      let w = accepted-agree g a (l .fits) in
-      agreeing-accepted g (w .0) ys (λ x m. w .1 x (sub x m)) .0
+      let w = accepted-agree g a (own-model l) in
+      agreeing-accepted g (w .model) ys (λ x m. w .agree x (sub x m)) .0
 
   -- and leave the same as those, where none is missing
   same-left : Accepts r xs → ((x : List ℕ) → List·Memᴰ x xs ↔ List·Memᴰ x ys) → left r (offers xs) ≡ left r (offers ys)
-  unfolding recorded
-  same-left a same = rows-equal u v (offers-left g xs ∙ sym (offers-left g ys)) (fun-ext both) (fun-ext (λ p. fun-ext (λ q. row p q)))
+  unfolding recorded fullBack
+  same-left a same = rows-equal u v (offers-left g xs ∙ sym (offers-left g ys)) (fun-ext both) (fun-ext full) (fun-ext (λ p. fun-ext (λ q. row p q)))
     where
-      u : Good k roster (left r (offers xs))
+      u : Good roster (left r (offers xs))
       u = good-after g (offers xs)
 
-      v : Good k roster (left r (offers ys))
+      v : Good roster (left r (offers ys))
       v = good-after g (offers ys)
 
       X : Accepted
@@ -272,28 +302,35 @@ module _ {k : Kind} {roster : List ℕ} {r : Recovery} (g : Good k roster r) {xs
       Y : Accepted
       Y = acceptedOf (left r (offers ys))
 
-      agree : Agreeing k roster (u .some) r xs
-      agree = accepted-agree g a (u .fits)
+      agree : Agreeing roster (u .some) (X .kind) r xs
+      agree = accepted-agree g a (own-model u)
 
-      other : Accepts r ys × Fits k (length roster) Y (u .some)
-      other = agreeing-accepted g (agree .0) ys (λ x m. agree .1 x (same x .1 m))
+      other : Accepts r ys × Model roster (u .some) (X .kind) (left r (offers ys))
+      other = agreeing-accepted g (agree .model) ys (λ x m. agree .agree x (same x .1 m))
 
-      to : (p : ℕ) → (acceptedOf r .returned p ≡ true) ⊎ BackBy k roster (secondsOf r) xs p → Y .returned p ≡ true
+      to : (p : ℕ) → (acceptedOf r .returned p ≡ true) ⊎ BackBy roster (secondsOf r) xs p → Y .returned p ≡ true
       to p (inl e) = within-left g (offers ys) .returned p e
       to p (inr w) = back-accepted g (other .0) p (back-among (λ x. same x .0) w)
 
-      from : (p : ℕ) → (acceptedOf r .returned p ≡ true) ⊎ BackBy k roster (secondsOf r) ys p → X .returned p ≡ true
+      from : (p : ℕ) → (acceptedOf r .returned p ≡ true) ⊎ BackBy roster (secondsOf r) ys p → X .returned p ≡ true
       from p (inl e) = within-left g (offers xs) .returned p e
       from p (inr w) = back-accepted g a p (back-among (λ x. same x .1) w)
 
       both : (p : ℕ) → X .returned p ≡ Y .returned p
       both p = both-ways (X .returned p) (Y .returned p) (λ e. to p (accepted-back g a p e)) (λ e. from p (accepted-back g (other .0) p e))
 
+      full : (p : ℕ) → X .returned p && isFull (X .kind p) ≡ Y .returned p && isFull (Y .kind p)
+      full p = go (split (X .returned p))
+        where
+          go : (X .returned p ≡ true) ⊎ (X .returned p ≡ false) → X .returned p && isFull (X .kind p) ≡ Y .returned p && isFull (Y .kind p)
+          go (inl e) = ap₂ (λ (a : Bool) (k : Kind). a && isFull k) (both p) (sym (other .1 .kinds p (sym (both p) ∙ e)))
+          go (inr e) = ap (λ (b : Bool). b && isFull (X .kind p)) e ∙ sym (ap (λ (b : Bool). b && isFull (Y .kind p)) (sym (both p) ∙ e))
+
       row : (p q : ℕ) → recorded X p q ≡ recorded Y p q
       row p q = go (split (X .returned p))
         where
           go : (X .returned p ≡ true) ⊎ (X .returned p ≡ false) → recorded X p q ≡ recorded Y p q
-          go (inl e) = ap₂ (λ (a b : Bool). a && b) (both p) (sym (u .fits .recorded p e q) ∙ other .1 .recorded p (sym (both p) ∙ e) q)
+          go (inl e) = ap₂ (λ (a b : Bool). a && b) (both p) (sym (u .fits .recorded p e q) ∙ other .1 .fits .recorded p (sym (both p) ∙ e) q)
           go (inr e) = ap (λ (b : Bool). b && X .row p q) e ∙ sym (ap (λ (b : Bool). b && Y .row p q) (sym (both p) ∙ e))
 
 -- a permutation has the same members
@@ -308,32 +345,32 @@ permuted (List·Permᴰ·trans p q) m = permuted q (permuted p m)
 
 -- ---- the statements
 
-module _ {kind : ℕ} {roster : List ℕ} (f : Free kind roster) (cs : List Call) where
+module _ {roster : List ℕ} (f : Free roster) (cs : List Call) where
   -- after any calls, and then any others: what was decided of a place is said of it still
-  pub decided-stays : (ds : List Call) (i : ℕ) → Stays (reached kind roster cs) (reached kind roster (cs ++ ds)) i
-  decided-stays ds i = rw (left-append (opened kind roster .recovery) cs ds) (stays-left (good-left f cs) ds i)
+  pub decided-stays : (ds : List Call) (i : ℕ) → Stays (reached roster cs) (reached roster (cs ++ ds)) i
+  decided-stays ds i = rw (left-append (opened roster .recovery) cs ds) (stays-left (good-left f cs) ds i)
 
-  pub settled-stays : (ds : List Call) → settledOf (reached kind roster cs) ≡ true → settledOf (reached kind roster (cs ++ ds)) ≡ true
-  settled-stays ds = rw (left-append (opened kind roster .recovery) cs ds) (settled-left (good-left f cs) ds)
+  pub settled-stays : (ds : List Call) → settledOf (reached roster cs) ≡ true → settledOf (reached roster (cs ++ ds)) ≡ true
+  settled-stays ds = rw (left-append (opened roster .recovery) cs ds) (settled-left (good-left f cs) ds)
 
   module _ {xs ys : List (List ℕ)} where
     -- then some records, all accepted: any of them are accepted in any order, and however often
-    pub accepted-anyhow : Accepts (reached kind roster cs) xs → ((x : List ℕ) → List·Memᴰ x ys → List·Memᴰ x xs) → Accepts (reached kind roster cs) ys
+    pub accepted-anyhow : Accepts (reached roster cs) xs → ((x : List ℕ) → List·Memᴰ x ys → List·Memᴰ x xs) → Accepts (reached roster cs) ys
     accepted-anyhow = any-accepted (good-left f cs)
 
     -- and leave an equal recovery, if none of them is missing
-    pub left-anyhow : Accepts (reached kind roster cs) xs → ((x : List ℕ) → List·Memᴰ x xs ↔ List·Memᴰ x ys) → reached kind roster (cs ++ offers xs) ≡ reached kind roster (cs ++ offers ys)
+    pub left-anyhow : Accepts (reached roster cs) xs → ((x : List ℕ) → List·Memᴰ x xs ↔ List·Memᴰ x ys) → reached roster (cs ++ offers xs) ≡ reached roster (cs ++ offers ys)
     left-anyhow a same =
-        left-append (opened kind roster .recovery) cs (offers xs) ∙ same-left (good-left f cs) a same ∙ sym (left-append (opened kind roster .recovery) cs (offers ys))
+        left-append (opened roster .recovery) cs (offers xs) ∙ same-left (good-left f cs) a same ∙ sym (left-append (opened roster .recovery) cs (offers ys))
 
     -- so in two orders of the same records: accepted in one, they are accepted in the other, and both leave equal recoveries
-    pub accepted-in-every-order : List·Permᴰ xs ys → Accepts (reached kind roster cs) xs → Accepts (reached kind roster cs) ys
+    pub accepted-in-every-order : List·Permᴰ xs ys → Accepts (reached roster cs) xs → Accepts (reached roster cs) ys
     accepted-in-every-order p a = accepted-anyhow a (λ x. permuted (Permᴰ·symm p))
 
-    pub order-leaves-no-trace : List·Permᴰ xs ys → Accepts (reached kind roster cs) xs → reached kind roster (cs ++ offers xs) ≡ reached kind roster (cs ++ offers ys)
+    pub order-leaves-no-trace : List·Permᴰ xs ys → Accepts (reached roster cs) xs → reached roster (cs ++ offers xs) ≡ reached roster (cs ++ offers ys)
     order-leaves-no-trace p a = left-anyhow a (λ x. (permuted p, permuted (Permᴰ·symm p)))
 
 -- whatever was called: where the same second serials were given and the same records are accepted, the recoveries are equal
-pub no-trace : {kind : ℕ} {roster : List ℕ} → Free kind roster → (cs ds : List Call) → secondsOf (reached kind roster cs) ≡ secondsOf (reached kind roster ds)
-    → acceptedOf (reached kind roster cs) ≡ acceptedOf (reached kind roster ds) → reached kind roster cs ≡ reached kind roster ds
+pub no-trace : {roster : List ℕ} → Free roster → (cs ds : List Call) → secondsOf (reached roster cs) ≡ secondsOf (reached roster ds)
+    → acceptedOf (reached roster cs) ≡ acceptedOf (reached roster ds) → reached roster cs ≡ reached roster ds
 no-trace f cs ds = ledgers-equal (good-left f cs) (good-left f ds)

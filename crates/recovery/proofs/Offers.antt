@@ -8,6 +8,7 @@ use lib.ListN.{length, take, drop}
 use borrow.Author.Tests.{le-leb}
 use Rattle.places.specs.PlaceSets.{has, packed}
 use Rattle.places.proofs.Laws.{has-packed, kept-all}
+use Rattle.histories.specs.declared.Kind.{Kind}
 use Rattle.histories.specs.Histories.{Row}
 use Rattle.records.specs.Layout.{Parsed, got, refused, Stored, stored, lone}
 use Rattle.records.specs.declared.Record.{Record}
@@ -19,22 +20,22 @@ use Rattle.answers.specs.Views.{size}
 use Rattle.groups.specs.Groups.{aliasIn}
 use Rattle.replies.specs.declared.Reply.{Reply}
 use Rattle.replies.specs.declared.Reply.the-variants as O
-use Rattle.replies.specs.Replies.{sameKind, entering, judgement}
+use Rattle.replies.specs.Replies.{entering, judgement}
 use Rattle.recovery.specs.declared.Recovery.{Recovery}
 use Rattle.recovery.specs.Contracts.{sizeOf, rosterOf, secondsOf, aliasOf, ofGroup, saying, keeping, answered, entered, judged, offeredAs, offered}
 use Rattle.recovery.proofs.Facts.{lone-on}
 
-pub answered-taken : (r : Recovery) (p : ℕ) (M : Row) (a : Reply) (s : Recovery) → a ≡ O.Taken → s ≡ keeping r p M → record { answer = O.Taken; recovery = s } ≡ answered r p M a
+pub answered-taken : (r : Recovery) (p : ℕ) (k : Kind) (M : Row) (a : Reply) (s : Recovery) → a ≡ O.Taken → s ≡ keeping r p k M → record { answer = O.Taken; recovery = s } ≡ answered r p k M a
 unfolding answered
-answered-taken r p M a s e f = rw (e, f)
+answered-taken r p k M a s e f = rw (e, f)
 
-pub answered-repeated : (r : Recovery) (p : ℕ) (M : Row) (a : Reply) → a ≡ O.Repeated → saying r O.Repeated ≡ answered r p M a
+pub answered-repeated : (r : Recovery) (p : ℕ) (k : Kind) (M : Row) (a : Reply) → a ≡ O.Repeated → saying r O.Repeated ≡ answered r p k M a
 unfolding answered
-answered-repeated r p M a e = rw e
+answered-repeated r p k M a e = rw e
 
-pub answered-refused : (r : Recovery) (p : ℕ) (M : Row) (a : Reply) (j : ℕ) → a ≡ O.Refused j → saying r (O.Refused j) ≡ answered r p M a
+pub answered-refused : (r : Recovery) (p : ℕ) (k : Kind) (M : Row) (a : Reply) (j : ℕ) → a ≡ O.Refused j → saying r (O.Refused j) ≡ answered r p k M a
 unfolding answered
-answered-refused r p M a j e = rw e
+answered-refused r p k M a j e = rw e
 
 -- a record that was read: its mourned set fits two words, and its roster stands in the bytes
 module _ (alias : ℕ → ℕ) (b : List ℕ) (y : Stored) (rest : List ℕ) (e : lone alias b ≡ got y rest) where
@@ -53,31 +54,31 @@ module _ (alias : ℕ → ℕ) (b : List ℕ) (y : Stored) (rest : List ℕ) (e 
       (le-leb (6 + length (y .roster) * 4) (length b) (omega (arith, roster-within alias b 0 y rest here))) (serials-read alias b 0 y rest here)
 
   judged-is : (r : Recovery) (all : ℕ)
-      → answered r (y .own) (has (packed (y .mourned)))
-      (judgement (r .kind) (r .count) (r .serials) (has (r .returned)) (r .rows) b
+      → answered r (y .own) (y .kind) (has (packed (y .mourned)))
+      (judgement (r .count) (r .serials) (has (r .returned)) (has (r .full)) (r .rows) b
       (record { kind = y .kind; own = record { 0 = y .own }; roster = 6; count = length (y .roster); mourned = packed (y .mourned); next = all }))
       ≡ judged r y
   unfolding judgement judged ofGroup rosterOf sizeOf entered answered
   judged-is r all =
-      ap₂ (λ (t : Bool) (M : Row). answered r (y .own) M (cond (sameKind (y .kind) (r .kind) && t) (entering (r .kind) (r .count) (has (r .returned)) (r .rows) (y .own) M) (O.Refused 9)))
+      ap₂ (λ (t : Bool) (M : Row). answered r (y .own) (y .kind) M (cond t (entering (r .count) (has (r .returned)) (has (r .full)) (r .rows) (y .own) (y .kind) M) (O.Refused 9)))
       (roster-there (take (size (r .count)) (r .serials))) mourned-is
-      ∙ go (sameKind (y .kind) (r .kind) && sameList (y .roster) (take (size (r .count)) (r .serials)))
+      ∙ go (sameList (y .roster) (take (size (r .count)) (r .serials)))
     where
-      go : (t : Bool) → answered r (y .own) (y .mourned) (cond t (entering (r .kind) (r .count) (has (r .returned)) (r .rows) (y .own) (y .mourned)) (O.Refused 9))
-          ≡ cond t (entered r (y .own) (y .mourned)) (saying r (O.Refused 9))
+      go : (t : Bool) → answered r (y .own) (y .kind) (y .mourned) (cond t (entering (r .count) (has (r .returned)) (has (r .full)) (r .rows) (y .own) (y .kind) (y .mourned)) (O.Refused 9))
+          ≡ cond t (entered r (y .own) (y .kind) (y .mourned)) (saying r (O.Refused 9))
       go true = refl
-      go false = sym (answered-refused r (y .own) (y .mourned) (O.Refused 9) 9 refl)
+      go false = sym (answered-refused r (y .own) (y .kind) (y .mourned) (O.Refused 9) 9 refl)
 
 pub offered-read : (r : Recovery) (b : List ℕ) (x : Record) → readingLone (aliasIn (r .count) (r .serials) (r .seconds)) b ≡ Read x
-    → answered r (x .own .0) (has (x .mourned)) (judgement (r .kind) (r .count) (r .serials) (has (r .returned)) (r .rows) b x) ≡ offered r b
+    → answered r (x .own .0) (x .kind) (has (x .mourned)) (judgement (r .count) (r .serials) (has (r .returned)) (has (r .full)) (r .rows) b x) ≡ offered r b
 unfolding readingLone readingOf offered offeredAs aliasOf rosterOf secondsOf sizeOf aliasIn
 offered-read r b x e = go (lone (aliasOf r) b) refl e
   where
     go : (p : Parsed Stored) → lone (aliasOf r) b ≡ p → readingOf (length b) 0 p ≡ Read x
-        → answered r (x .own .0) (has (x .mourned)) (judgement (r .kind) (r .count) (r .serials) (has (r .returned)) (r .rows) b x) ≡ offeredAs r p
+        → answered r (x .own .0) (x .kind) (has (x .mourned)) (judgement (r .count) (r .serials) (has (r .returned)) (has (r .full)) (r .rows) b x) ≡ offeredAs r p
     go (got y rest) f g =
         let h : record { kind = y .kind; own = record { 0 = y .own }; roster = 6; count = length (y .roster); mourned = packed (y .mourned); next = length b - length rest } ≡ x = cc in
-        subst (λ (x : Record). answered r (x .own .0) (has (x .mourned)) (judgement (r .kind) (r .count) (r .serials) (has (r .returned)) (r .rows) b x) ≡ judged r y) h (judged-is (aliasOf r) b y rest f r (length b - length rest))
+        subst (λ (x : Record). answered r (x .own .0) (x .kind) (has (x .mourned)) (judgement (r .count) (r .serials) (has (r .returned)) (has (r .full)) (r .rows) b x) ≡ judged r y) h (judged-is (aliasOf r) b y rest f r (length b - length rest))
     go (refused j) f g = let z : _≡_ {A = ℕ} 0 1 = cc in absurd (omega arith)
 
 pub offered-unread : (r : Recovery) (b : List ℕ) (j : ℕ) → readingLone (aliasIn (r .count) (r .serials) (r .seconds)) b ≡ Refused j → saying r (O.Refused j) ≡ offered r b

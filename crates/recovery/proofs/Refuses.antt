@@ -1,7 +1,6 @@
 -- What the listing gives is all that demand 3 lets those calls give: a release that gives anything else is refused. Assumes nothing.
 use mathlib.Core.Path.{_≡_, refl, subst}
 use mathlib.Core.Bool.{Bool, true, _&&_}
-use mathlib.Core.Logic.{inr}
 use mathlib.Core.List.{List, [], _∷_, map}
 use Prim.Native.Nat.{ℕ, zero, suc, _^_}
 use native.Mathlib.Omega.{arith}
@@ -13,19 +12,17 @@ use Rattle.places.proofs.Booleans.{and-left, and-right}
 use Rattle.places.proofs.Tests.{all-elim}
 use Rattle.rosters.specs.Rosters.{placeOf, holds, firstRepeat, listed}
 use Rattle.rosters.proofs.Laws.{listed-sound}
-use Rattle.records.specs.Layout.{kindOf}
 use Rattle.records.proofs.Layouts.{AllBytes}
 use Rattle.recovery.specs.Demand.{Free, begun, Outcome, says, lent, lent-one, places, number, Whole}
-use Rattle.recovery.proofs.Acceptance.{serials, group, record-101, record-104, record-102, row, first-rows, second-rows, outcomeOf, callOf, lines, listing}
+use Rattle.recovery.proofs.Acceptance.{serials, group, record-101, record-104, record-102, full-103, row, first-rows, second-rows, outcomeOf, callOf, lines, listing}
 use Rattle.recovery.proofs.Demand.{demand-3}
 use Rattle.recovery.proofs.Single.{plain, InBytes, AllInBytes, single-whole}
 
 -- ---- the listing's group
 
-free : Free 2 serials
+free : Free serials
 unfolding serials listed placeOf holds firstRepeat all
 free = record {
-  known = inr refl;
   sound = listed-sound serials .0 refl;
   serials = λ p l. ltb-true (getD serials p 0) (2 ^ 32) (all-elim 4 (λ p. ltb (getD serials p 0) (2 ^ 32)) refl p l);
 }
@@ -67,14 +64,14 @@ all-in [] e = tt
 all-in (o ∷ os) e = (lends-in o (and-left (lends o) (all-lend os) e), all-in os (and-right (lends o) (all-lend os) e))
 
 listing-in : AllInBytes (map outcomeOf lines)
-unfolding lines outcomeOf group record-101 record-104 record-102 row first-rows second-rows all-lend lends bytes
+unfolding lines outcomeOf group record-101 record-104 record-102 full-103 row first-rows second-rows all-lend lends bytes
 listing-in = all-in (map outcomeOf lines) refl
 
 -- ---- and no others are dictated
 
-listing-dictated : Whole (kindOf 2) serials (begun serials) (map callOf lines) (map outcomeOf lines)
-listing-dictated = subst (Whole (kindOf 2) serials (begun serials) (map callOf lines)) listing (demand-3 2 serials free (map callOf lines) .1)
+listing-dictated : Whole serials (begun serials) (map callOf lines) (map outcomeOf lines)
+listing-dictated = subst (Whole serials (begun serials) (map callOf lines)) listing (demand-3 serials free (map callOf lines) .1)
 
-pub listing-only : {os : List Outcome} → Whole (kindOf 2) serials (begun serials) (map callOf lines) os → AllInBytes os
+pub listing-only : {os : List Outcome} → Whole serials (begun serials) (map callOf lines) os → AllInBytes os
     → map (plain (length serials)) os ≡ map (plain (length serials)) (map outcomeOf lines)
 listing-only w c = single-whole (free .sound) w listing-dictated c listing-in

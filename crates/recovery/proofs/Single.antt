@@ -9,10 +9,8 @@ use native.Mathlib.Decide.{decLt}
 use lib.ListN.{length, getD, take, drop, take-append-drop}
 use Rattle.places.specs.Sets.{count}
 use Rattle.places.proofs.Booleans.{clash, both-ways}
-use Rattle.histories.specs.declared.Kind.{Kind}
 use Rattle.histories.specs.Histories.{Row, History, Accepted, lay, Fits, Disagree, Decided}
-use Rattle.histories.proofs.Exact.{all-none, all-open, none-open}
-use Rattle.histories.proofs.Demand.{none-fitted}
+use Rattle.histories.proofs.Exact.{none-fitted, all-none, all-open, none-open}
 use Rattle.rosters.specs.Rosters.{IsRoster}
 use Rattle.rosters.specs.Seconds.{countsAs, itself}
 use Rattle.records.specs.Layout.{Parsed, got, Stored, stored, lone, layout}
@@ -20,7 +18,7 @@ use Rattle.records.specs.Layout as L
 use Rattle.records.proofs.Layouts.{AllBytes, bytes-drop}
 use Rattle.records.proofs.Trips.{layout-read}
 use Rattle.recovery.specs.Demand as D
-use Rattle.recovery.specs.Demand.{Said, refused, Call, Ledger, begun, KnownSerial, AreSeconds, Outcome, says, lent, lent-one, places, number, OfGroup, Unmourned, recordIn, endIn, Dictates, faulty, foreign, repeats, differs, takes, none-fits, asked-off, asked-last, asked-not, asked-open, showed-off, showed-decided, showed-short, showed, checked-short, checked-off, checked-fits, checked-not, whole-settled, whole-open, gave-unmourned, gave-absent, gave-count, found-first, found-second, found-none, gave-off, gave-zero, gave-known, gave, wrote-off, wrote-absent, wrote-short, wrote, Whole, end, then}
+use Rattle.recovery.specs.Demand.{Said, refused, Call, Ledger, begun, KnownSerial, AreSeconds, Outcome, says, lent, lent-one, places, number, OfGroup, SameRecord, Unmourned, recordIn, endIn, Dictates, faulty, foreign, repeats, differs, takes, none-fits, asked-off, asked-last, asked-not, asked-open, showed-off, showed-decided, showed-short, showed, checked-short, checked-off, checked-fits, checked-not, whole-settled, whole-open, gave-unmourned, gave-absent, gave-count, found-first, found-second, found-none, gave-off, gave-zero, gave-known, gave, wrote-off, wrote-absent, wrote-short, wrote, Whole, end, then}
 use Rattle.recovery.proofs.Swaps.{seconds-none, seconds-noted}
 
 -- ---- outcomes
@@ -79,7 +77,7 @@ room : {X : Type 0} {m a b : ℕ} → (a < m) ⊎ (b < m) → m ≤ a → m ≤ 
 room (inl s) x y = absurd (omega arith)
 room (inr s) x y = absurd (omega arith)
 
-dec-open : {k : Kind} {n : ℕ} {A : Accepted} {i : ℕ} {F G : History} {X : Type 0} → Decided k n A i → Disagree k n A i F G → X
+dec-open : {n : ℕ} {A : Accepted} {i : ℕ} {F G : History} {X : Type 0} → Decided n A i → Disagree n A i F G → X
 dec-open (inl a) d = all-open a d
 dec-open (inr z) d = none-open z d
 
@@ -94,32 +92,32 @@ read-clash e h = let z : _≡_ {A = ℕ} 0 1 = cc in absurd (omega arith)
 same-record : {p : Parsed Stored} {u v : List ℕ} {x y : Stored} → p ≡ got x u → p ≡ got y v → x ≡ y
 same-record e h = cc
 
-module _ {k : Kind} {roster seconds : List ℕ} {bytes : List ℕ} where
-  group-clash : {X : Type 0} {rest : List ℕ} {x y : Stored} → lone (countsAs roster seconds) bytes ≡ got x rest → ¬ ((x .kind ≡ k) × (x .roster ≡ roster)) → OfGroup k roster seconds bytes y → X
+module _ {roster seconds : List ℕ} {bytes : List ℕ} where
+  group-clash : {X : Type 0} {rest : List ℕ} {x y : Stored} → lone (countsAs roster seconds) bytes ≡ got x rest → ¬ (x .roster ≡ roster) → OfGroup roster seconds bytes y → X
   group-clash e z s =
-      absurd (z (subst (λ (x : Stored). (x .kind ≡ k) × (x .roster ≡ roster)) (same-record (s .reads) e) (s .same-kind, s .same-roster)))
+      absurd (z (subst (λ (x : Stored). x .roster ≡ roster) (same-record (s .reads) e) (s .same-roster)))
 
-  module _ (A : Accepted) {x y : Stored} (s : OfGroup k roster seconds bytes x) (t : OfGroup k roster seconds bytes y) where
+  module _ (A : Accepted) {x y : Stored} (s : OfGroup roster seconds bytes x) (t : OfGroup roster seconds bytes y) where
     move-back : A .returned (x .own) ≡ true → A .returned (y .own) ≡ true
     move-back = subst (λ (x : Stored). A .returned (x .own) ≡ true) (same-record (s .reads) (t .reads))
 
-    move-row : x .mourned ≡ A .row (x .own) → y .mourned ≡ A .row (y .own)
-    move-row = subst (λ (x : Stored). x .mourned ≡ A .row (x .own)) (same-record (s .reads) (t .reads))
+    move-row : SameRecord A x → SameRecord A y
+    move-row = subst (SameRecord A) (same-record (s .reads) (t .reads))
 
-    move-fits : {G : History} → Fits k (length roster) (lay A (x .own) (x .mourned)) G → Fits k (length roster) (lay A (y .own) (y .mourned)) G
-    move-fits {G} = subst (λ (x : Stored). Fits k (length roster) (lay A (x .own) (x .mourned)) G) (same-record (s .reads) (t .reads))
+    move-fits : {G : History} → Fits (length roster) (lay A (x .own) (x .kind) (x .mourned)) G → Fits (length roster) (lay A (y .own) (y .kind) (y .mourned)) G
+    move-fits {G} = subst (λ (x : Stored). Fits (length roster) (lay A (x .own) (x .kind) (x .mourned)) G) (same-record (s .reads) (t .reads))
 
-    same-lay : lay A (x .own) (x .mourned) ≡ lay A (y .own) (y .mourned)
-    same-lay = ap (λ (x : Stored). lay A (x .own) (x .mourned)) (same-record (s .reads) (t .reads))
+    same-lay : lay A (x .own) (x .kind) (x .mourned) ≡ lay A (y .own) (y .kind) (y .mourned)
+    same-lay = ap (λ (x : Stored). lay A (x .own) (x .kind) (x .mourned)) (same-record (s .reads) (t .reads))
 
 -- ---- the same set, place and buffer
 
-same-unmourned : {n : ℕ} {A : Accepted} {S U : Row} → Unmourned n A S → Unmourned n A U → S ≡ U
-same-unmourned {S = S} {U = U} u v = fun-ext (λ q. both-ways (S q) (U q) (λ e. v q .1 (u q .0 e)) (λ e. u q .1 (v q .0 e)))
+same-unmourned : {n : ℕ} (A : Accepted) {S U : Row} → Unmourned n A S → Unmourned n A U → S ≡ U
+same-unmourned A {S} {U} u v = fun-ext (λ q. both-ways (S q) (U q) (λ e. v q .1 (u q .0 e)) (λ e. u q .1 (v q .0 e)))
 
-same-absent : {n : ℕ} {A : Accepted} {S T U W : Row} → Unmourned n A U → Unmourned n A W
+same-absent : {n : ℕ} (A : Accepted) {S T U W : Row} → Unmourned n A U → Unmourned n A W
     → ((q : ℕ) → (S q ≡ true) ↔ ((U q ≡ true) × (A .returned q ≡ false))) → ((q : ℕ) → (T q ≡ true) ↔ ((W q ≡ true) × (A .returned q ≡ false))) → S ≡ T
-same-absent {S = S} {T = T} u v a b =
+same-absent A {S} {T} u v a b =
     fun-ext (λ q. both-ways (S q) (T q) (λ e. let w = a q .0 e in b q .1 (v q .1 (u q .0 (w .0)), w .1)) (λ e. let w = b q .0 e in a q .1 (u q .1 (v q .0 (w .0)), w .1)))
 
 same-place : {s : List ℕ} → IsRoster s → {p q : ℕ} → p < length s → q < length s → getD s p 0 ≡ getD s q 0 → p ≡ q
@@ -155,8 +153,8 @@ written-is x at out new h t d e =
 
 -- ---- the theorem
 
-pub single : {k : Kind} {roster : List ℕ} {A : Ledger} {H : History} → Fits k (length roster) (A .accepted) H → Sound roster (A .seconds)
-    → {c : Call} {o₁ o₂ : Outcome} {B₁ B₂ : Ledger} → Dictates k roster A c o₁ B₁ → Dictates k roster A c o₂ B₂ → InBytes o₁ → InBytes o₂
+pub single : {roster : List ℕ} {A : Ledger} {H : History} → Fits (length roster) (A .accepted) H → Sound roster (A .seconds)
+    → {c : Call} {o₁ o₂ : Outcome} {B₁ B₂ : Ledger} → Dictates roster A c o₁ B₁ → Dictates roster A c o₂ B₂ → InBytes o₁ → InBytes o₂
     → (plain (length roster) o₁ ≡ plain (length roster) o₂) × (B₁ ≡ B₂)
 unfolding plain showing
 single f s (faulty e₁ l₁ m₁) (faulty e₂ l₂ m₂) c₁ c₂ = (ap (λ (j : ℕ). says (refused j)) (same-fault e₁ e₂), refl)
@@ -248,9 +246,9 @@ single f s (whole-settled a₁) (whole-settled a₂) c₁ c₂ = (refl, refl)
 single f s (whole-settled a₁) (whole-open {i = i} x₂ d₂) c₁ c₂ = dec-open (a₁ i x₂) d₂
 single f s (whole-open {i = i} x₁ d₁) (whole-settled a₂) c₁ c₂ = dec-open (a₂ i x₁) d₁
 single f s (whole-open x₁ d₁) (whole-open x₂ d₂) c₁ c₂ = (refl, refl)
-single f s (gave-unmourned u₁) (gave-unmourned u₂) c₁ c₂ = (ap places (same-unmourned u₁ u₂), refl)
-single f s (gave-absent u₁ a₁) (gave-absent u₂ a₂) c₁ c₂ = (ap places (same-absent u₁ u₂ a₁ a₂), refl)
-single {roster = roster} f s (gave-count u₁) (gave-count u₂) c₁ c₂ = (ap (λ (S : Row). number (count (length roster) S)) (same-unmourned u₁ u₂), refl)
+single {A = A} f s (gave-unmourned u₁) (gave-unmourned u₂) c₁ c₂ = (ap places (same-unmourned (A .accepted) u₁ u₂), refl)
+single {A = A} f s (gave-absent u₁ a₁) (gave-absent u₂ a₂) c₁ c₂ = (ap places (same-absent (A .accepted) u₁ u₂ a₁ a₂), refl)
+single {roster = roster} {A = A} f s (gave-count u₁) (gave-count u₂) c₁ c₂ = (ap (λ (S : Row). number (count (length roster) S)) (same-unmourned (A .accepted) u₁ u₂), refl)
 single f s (found-first l₁ e₁) (found-first l₂ e₂) c₁ c₂ = (ap (λ (p : ℕ). says (D.first-of p)) (same-place (s .roster) l₁ l₂ (e₁ ∙ sym e₂)), refl)
 single f s (found-first l₁ e₁) (found-second l₂ z₂ e₂) c₁ c₂ = absurd (s .seconds .not-first _ _ l₂ l₁ (e₂ ∙ sym e₁))
 single f s (found-first l₁ e₁) (found-none z₂) c₁ c₂ = not-known s (λ x. s .roster .no-zero _ l₁ (e₁ ∙ x)) (_, l₁, inl e₁) z₂
@@ -291,15 +289,15 @@ single f s (wrote-short x₁ b₁ s₁) (wrote x₂ b₂ u₂ n₂ t₂ d₂ y�
 single f s (wrote x₁ b₁ u₁ n₁ t₁ d₁ y₁) (wrote-off x₂) c₁ c₂ = off x₂ x₁
 single f s (wrote x₁ b₁ u₁ n₁ t₁ d₁ y₁) (wrote-absent x₂ b₂) c₁ c₂ = clash b₁ b₂
 single f s (wrote x₁ b₁ u₁ n₁ t₁ d₁ y₁) (wrote-short x₂ b₂ s₂) c₁ c₂ = off u₁ s₂
-single {k} {roster} {A} f s (wrote {p = p} {at = at} {out = out} {out′ = new₁} x₁ b₁ u₁ n₁ t₁ d₁ y₁) (wrote {out′ = new₂} x₂ b₂ u₂ n₂ t₂ d₂ y₂) c₁ c₂ =
-    let x : Stored = recordIn k roster (A .accepted) p in
-    (ap (lent-one (D.ends (endIn k roster (A .accepted) p at))) (written-is x at out new₁ c₁ t₁ d₁ y₁ ∙ sym (written-is x at out new₂ c₂ t₂ d₂ y₂)), refl)
+single {roster} {A} f s (wrote {p = p} {at = at} {out = out} {out′ = new₁} x₁ b₁ u₁ n₁ t₁ d₁ y₁) (wrote {out′ = new₂} x₂ b₂ u₂ n₂ t₂ d₂ y₂) c₁ c₂ =
+    let x : Stored = recordIn roster (A .accepted) p in
+    (ap (lent-one (D.ends (endIn roster (A .accepted) p at))) (written-is x at out new₁ c₁ t₁ d₁ y₁ ∙ sym (written-is x at out new₂ c₂ t₂ d₂ y₂)), refl)
 
 -- ---- a list of calls
 
 -- some history fits what is left
-left-fits : {k : Kind} {roster : List ℕ} {A B : Ledger} {H : History} → Fits k (length roster) (A .accepted) H → {c : Call} {o : Outcome} → Dictates k roster A c o B
-    → (G : History) × Fits k (length roster) (B .accepted) G
+left-fits : {roster : List ℕ} {A B : Ledger} {H : History} → Fits (length roster) (A .accepted) H → {c : Call} {o : Outcome} → Dictates roster A c o B
+    → (G : History) × Fits (length roster) (B .accepted) G
 left-fits {H = H} f (faulty a b d) = (H, f)
 left-fits {H = H} f (foreign a b) = (H, f)
 left-fits {H = H} f (repeats a b d) = (H, f)
@@ -336,7 +334,7 @@ left-fits {H = H} f (wrote-short a b d) = (H, f)
 left-fits {H = H} f (wrote a b d e m n p) = (H, f)
 
 -- and the second serials stay apart
-left-seconds : {k : Kind} {roster : List ℕ} {A B : Ledger} → AreSeconds roster (A .seconds) → {c : Call} {o : Outcome} → Dictates k roster A c o B → AreSeconds roster (B .seconds)
+left-seconds : {roster : List ℕ} {A B : Ledger} → AreSeconds roster (A .seconds) → {c : Call} {o : Outcome} → Dictates roster A c o B → AreSeconds roster (B .seconds)
 left-seconds s (faulty a b d) = s
 left-seconds s (foreign a b) = s
 left-seconds s (repeats a b d) = s
@@ -372,15 +370,15 @@ left-seconds s (wrote-absent a b) = s
 left-seconds s (wrote-short a b d) = s
 left-seconds s (wrote a b d e m n p) = s
 
-single-from : {k : Kind} {roster : List ℕ} {A : Ledger} {H : History} → Fits k (length roster) (A .accepted) H → Sound roster (A .seconds) → {cs : List Call} {os₁ os₂ : List Outcome}
-    → Whole k roster A cs os₁ → Whole k roster A cs os₂ → AllInBytes os₁ → AllInBytes os₂ → map (plain (length roster)) os₁ ≡ map (plain (length roster)) os₂
+single-from : {roster : List ℕ} {A : Ledger} {H : History} → Fits (length roster) (A .accepted) H → Sound roster (A .seconds) → {cs : List Call} {os₁ os₂ : List Outcome}
+    → Whole roster A cs os₁ → Whole roster A cs os₂ → AllInBytes os₁ → AllInBytes os₂ → map (plain (length roster)) os₁ ≡ map (plain (length roster)) os₂
 single-from f s end end c₁ c₂ = refl
-single-from {k} {roster} f s (then {cs = cs} d₁ w₁) (then {os = os} d₂ w₂) c₁ c₂ =
+single-from {roster} f s (then {cs = cs} d₁ w₁) (then {os = os} d₂ w₂) c₁ c₂ =
     let e = single f s d₁ d₂ (c₁ .0) (c₂ .0) in
     ap₂ (λ (o : Outcome) (os : List Outcome). o ∷ os) (e .0)
-    (single-from (left-fits f d₁ .1) (record { roster = s .roster; seconds = left-seconds (s .seconds) d₁ }) w₁ (subst (λ (B : Ledger). Whole k roster B cs os) (sym (e .1)) w₂) (c₁ .1) (c₂ .1))
+    (single-from (left-fits f d₁ .1) (record { roster = s .roster; seconds = left-seconds (s .seconds) d₁ }) w₁ (subst (λ (B : Ledger). Whole roster B cs os) (sym (e .1)) w₂) (c₁ .1) (c₂ .1))
 
 -- so a list of calls from the opening on has one list of outcomes
-pub single-whole : {k : Kind} {roster : List ℕ} → IsRoster roster → {cs : List Call} {os₁ os₂ : List Outcome}
-    → Whole k roster (begun roster) cs os₁ → Whole k roster (begun roster) cs os₂ → AllInBytes os₁ → AllInBytes os₂ → map (plain (length roster)) os₁ ≡ map (plain (length roster)) os₂
-single-whole {k} {roster} s = single-from (none-fitted k (length roster)) (record { roster = s; seconds = seconds-none roster (s .no-zero) })
+pub single-whole : {roster : List ℕ} → IsRoster roster → {cs : List Call} {os₁ os₂ : List Outcome}
+    → Whole roster (begun roster) cs os₁ → Whole roster (begun roster) cs os₂ → AllInBytes os₁ → AllInBytes os₂ → map (plain (length roster)) os₁ ≡ map (plain (length roster)) os₂
+single-whole {roster} s = single-from (none-fitted (length roster)) (record { roster = s; seconds = seconds-none roster (s .no-zero) })

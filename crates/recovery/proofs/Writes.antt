@@ -8,12 +8,13 @@ use lib.ListN.{length, take}
 use borrow.Author.Tests.{lt-ltb, le-leb}
 use Rattle.places.specs.PlaceSets.{has}
 use Rattle.places.specs.declared.PlaceSet.{PlaceSet}
-use Rattle.histories.specs.Rule.{recorded}
+use Rattle.histories.specs.declared.Kind.{Kind}
+use Rattle.histories.specs.Histories.{History}
 use Rattle.records.specs.declared.Writing.{Writing}
 use Rattle.records.specs.declared.Writing.the-variants as W
 use Rattle.records.specs.Records.{Written, unwritten, written}
-use Rattle.answers.specs.Views.{size, acceptedIn}
-use Rattle.answers.proofs.Views.{recorded-back}
+use Rattle.answers.specs.Views.{size, kindIn, acceptedIn, recordedIn}
+use Rattle.answers.proofs.Views.{accepted-recorded, recorded-back}
 use Rattle.recovery.specs.declared.Recovery.{Recovery}
 use Rattle.recovery.specs.Contracts.{sizeOf, rosterOf, acceptedOf, recordOf, writtenOf}
 use Rattle.recovery.proofs.Calls.{written-off, written-absent}
@@ -41,18 +42,20 @@ module _ (r : Recovery) (p : ℕ) (out : List ℕ) (at : ℕ) where
     write-14 e = said 14 (written-absent r refl p out at l (back-is ∙ e))
 
     -- the records' writer lays down the accepted record
-    writes : has (r .returned) p ≡ true → (n : ℕ) → n ≡ sizeOf r → n ≡ length (take n (r .serials)) → (row : PlaceSet) → has row ≡ recorded (acceptedOf r) p
-        → written (r .kind) p (take n (r .serials)) (has row) out at ≡ writtenOf r p out at
-    unfolding written writtenOf recordOf rosterOf
+    writes : has (r .returned) p ≡ true → (n : ℕ) → n ≡ sizeOf r → n ≡ length (take n (r .serials)) → (row : PlaceSet) → has row ≡ recordedIn (r .count) (has (r .returned)) (r .rows) p
+        → written (acceptedOf r .kind p) p (take n (r .serials)) (has row) out at ≡ writtenOf r p out at
+    unfolding written writtenOf recordOf rosterOf acceptedOf
     writes b n is all row e =
         let on : p < length (take n (r .serials)) = omega arith in
         let few : length (take n (r .serials)) ≤ 128 = omega (arith, size-few r) in
         let back : acceptedOf r .returned p ≡ true = back-is ∙ b in
-        rw (lt-ltb p (length (take n (r .serials))) on, le-leb (length (take n (r .serials))) 128 few, lt-ltb p (sizeOf r) l, back, is, e ∙ sym (recorded-back (acceptedOf r) p back))
+        rw (lt-ltb p (length (take n (r .serials))) on, le-leb (length (take n (r .serials))) 128 few, lt-ltb p (sizeOf r) l, back, is, e ∙ sym (ap (λ (H : History). H p) (accepted-recorded (r .count) (has (r .returned)) (has (r .full)) (r .rows))) ∙ sym (recorded-back (acceptedOf r) p back))
 
-    pub write-back : has (r .returned) p ≡ true → (n : ℕ) → n ≡ sizeOf r → n ≡ length (take n (r .serials)) → (row : PlaceSet) → has row ≡ recorded (acceptedOf r) p
-        → (a : Writing) (after : List ℕ) → (a ≡ written (r .kind) p (take n (r .serials)) (has row) out at .answer) × (after ≡ written (r .kind) p (take n (r .serials)) (has row) out at .buffer)
+    pub write-back : has (r .returned) p ≡ true → (n : ℕ) → n ≡ sizeOf r → n ≡ length (take n (r .serials)) → (row : PlaceSet) → has row ≡ recordedIn (r .count) (has (r .returned)) (r .rows) p
+        → (k : Kind) → k ≡ kindIn (has (r .full)) p
+        → (a : Writing) (after : List ℕ) → (a ≡ written k p (take n (r .serials)) (has row) out at .answer) × (after ≡ written k p (take n (r .serials)) (has row) out at .buffer)
         → Leaves a after
-    write-back b n is all row e a after w =
-        let f = writes b n is all row e in
+    unfolding acceptedOf acceptedIn
+    write-back b n is all row e k ek a after w =
+        let f = ap (λ (j : Kind). written j p (take n (r .serials)) (has row) out at) ek ∙ writes b n is all row e in
         (w .0 ∙ ap (λ (w : Written). w .answer) f, w .1 ∙ ap (λ (w : Written). w .buffer) f)

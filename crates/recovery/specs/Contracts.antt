@@ -1,6 +1,6 @@
 -- What each call gives, and each lent byte afterwards, for every recovery and every input: the definitions that the contracts
 -- cite. Assumes nothing.
-use mathlib.Core.Bool.{Bool, cond, _&&_}
+use mathlib.Core.Bool.{Bool, cond}
 use mathlib.Core.List.{List, [], _++_}
 use Prim.Native.Nat.{ℕ, _-_, _*_}
 use lib.ListN.{length, set, take, replicate}
@@ -8,16 +8,17 @@ use lib.Dec.{leb, ltb}
 use Rattle.places.specs.Sets.{nothing, below, union, difference, with, count}
 use Rattle.places.specs.PlaceSets.{has, packed}
 use Rattle.histories.specs.declared.Kind.{Kind}
-use Rattle.histories.specs.declared.Kind.the-variants.{Full}
+use Rattle.histories.specs.declared.Kind.the-variants.{Full, Short}
 use Rattle.histories.specs.Histories.{Row, History, Accepted}
-use Rattle.histories.specs.Rule.{Answer, is-last, not-last, is-open, recorded, mourned, answerBy, settledBy, fitsTest}
+use Rattle.histories.specs.Rule.{Answer, is-last, not-last, is-open, recorded, mourned, fullBack, beforeFull, fitsTest}
+use Rattle.histories.specs.Kept.{answerBy, settledBy}
 use Rattle.rosters.specs.Rosters.{listed}
 use Rattle.rosters.specs.Seconds.{countsAs, finding}
 use Rattle.rosters.specs.declared.Finding.{Finding}
 use Rattle.rosters.specs.declared.Listed.{Listed}
 use Rattle.rosters.specs.declared.Listed.the-variants as L
 use Rattle.rows.specs.Rows.{noRows, rowsOf, withRow, tableOf, historyIn}
-use Rattle.records.specs.Layout.{Parsed, got, refused, knownKind, kindOf, Stored, lone, layout}
+use Rattle.records.specs.Layout.{Parsed, got, refused, Stored, lone, layout}
 use Rattle.records.specs.Records.{sameList, Written, unwritten, writtenAt}
 use Rattle.answers.specs.Views.{size, acceptedIn}
 use Rattle.groups.specs.Groups.{giving}
@@ -25,7 +26,7 @@ use Rattle.groups.specs.declared.Giving.{Giving}
 use Rattle.groups.specs.declared.Giving.the-variants as Y
 use Rattle.checks.specs.Checks.{offRoster}
 use Rattle.shows.specs.Shows.{Shown, shownIn}
-use Rattle.replies.specs.Replies.{sameKind, entering}
+use Rattle.replies.specs.Replies.{entering}
 use Rattle.recovery.specs.declared.Recovery.{Recovery}
 use Rattle.recovery.specs.declared.Opening.the-variants as G
 use Rattle.recovery.specs.declared.Opened.{Opened}
@@ -57,83 +58,104 @@ aliasOf r = countsAs (rosterOf r) (secondsOf r)
 
 -- the accepted records; places off the roster are not looked at
 unfoldable pub acceptedOf : Recovery → Accepted
-acceptedOf r = acceptedIn (r .count) (has (r .returned)) (r .rows)
+acceptedOf r = acceptedIn (r .count) (has (r .returned)) (has (r .full)) (r .rows)
 
 -- the recovery of a group that has these second serials and these records accepted, whatever came in between and in whatever order. Every
 -- recovery is such a one from its opening on (proofs/Demand.antt, `Good`): the mourned places that it keeps are those that its accepted records
--- name, and it has an empty row for each place that is not back. The calls go by what is kept, so that asking need not collect it,
--- and showing need not clean it
-unfoldable pub holding : Kind → List ℕ → List ℕ → Accepted → Recovery
-holding k roster seconds A = record {
-  kind = k;
+-- name, the full ones are those back with a full record, the earlier ones are those before one of these, and it has an empty row for each
+-- place that is not back. The calls go by what is kept, so that asking need not collect it, and showing need not clean it
+unfoldable pub holding : List ℕ → List ℕ → Accepted → Recovery
+holding roster seconds A = record {
   count = length roster;
   serials = roster ++ replicate (128 - length roster) 0;
   seconds = seconds ++ replicate (128 - length seconds) 0;
   returned = packed (A .returned);
+  full = packed (fullBack A);
   mourned = packed (mourned (length roster) A);
+  earlier = packed (beforeFull (length roster) A);
   rows = tableOf (recorded A);
 }
 
--- ---- opening: 2, then 3, 4, 5, or opened
+-- ---- opening: 3, 4, 5, or opened
 
 -- a roster, no second serial, and nobody back
-unfoldable pub fresh : Kind → List ℕ → Recovery
-fresh k s = record {
-  kind = k;
+unfoldable pub fresh : List ℕ → Recovery
+fresh s = record {
   count = length s;
   serials = s ++ replicate (128 - length s) 0;
   seconds = replicate 128 0;
   returned = packed nothing;
+  full = packed nothing;
   mourned = packed nothing;
+  earlier = packed nothing;
   rows = noRows;
 }
 
 -- a refused opening gives a recovery of no places
 unfoldable pub unopened : ℕ → Opened
-unopened j = record { answer = G.Refused j; recovery = fresh Full [] }
+unopened j = record { answer = G.Refused j; recovery = fresh [] }
 
-unfoldable pub openedAs : Kind → List ℕ → Listed → Opened
-openedAs k s L.Sound = record { answer = G.Opened; recovery = fresh k s }
-openedAs k s (L.Refused j) = unopened j
+unfoldable pub openedAs : List ℕ → Listed → Opened
+openedAs s L.Sound = record { answer = G.Opened; recovery = fresh s }
+openedAs s (L.Refused j) = unopened j
 
-unfoldable pub opened : ℕ → List ℕ → Opened
-opened kind s = cond (knownKind kind) (openedAs (kindOf kind) s (listed s)) (unopened 2)
+unfoldable pub opened : List ℕ → Opened
+opened s = openedAs s (listed s)
 
 -- ---- offering: 1 to 8, 9, repeated or 10, 11 or taken
 
--- the record is of this group: its kind and its roster are the recovery's, order included
+-- the record is of this group: its roster is the recovery's, order included
 unfoldable pub ofGroup : Recovery → Stored → Bool
-ofGroup r x = sameKind (x .kind) (r .kind) && sameList (x .roster) (rosterOf r)
+ofGroup r x = sameList (x .roster) (rosterOf r)
 
 -- the recovery stays as it is
 unfoldable pub saying : Recovery → Reply → Offered
 saying r a = record { answer = a; recovery = r }
 
--- the record of p with the mourned set M is kept
-unfoldable pub keeping : Recovery → ℕ → Row → Recovery
-keeping r p M = record {
-  kind = r .kind;
+-- the place p is full, and those of M are before it
+unfoldable pub keepingFull : Recovery → ℕ → Row → Recovery
+keepingFull r p M = record {
+  count = r .count;
+  serials = r .serials;
+  seconds = r .seconds;
+  returned = r .returned;
+  full = packed (with p (has (r .full)));
+  mourned = r .mourned;
+  earlier = packed (union (has (r .earlier)) M);
+  rows = r .rows;
+}
+
+-- the place p is back, with the mourned set M
+unfoldable pub keepingRow : Recovery → ℕ → Row → Recovery
+keepingRow r p M = record {
   count = r .count;
   serials = r .serials;
   seconds = r .seconds;
   returned = packed (with p (has (r .returned)));
+  full = r .full;
   mourned = packed (union (has (r .mourned)) M);
+  earlier = r .earlier;
   rows = withRow (r .rows) p (packed M);
 }
 
--- what a reply to the record of p leaves: one that is taken is kept, otherwise the recovery stays as it is
-unfoldable pub answered : Recovery → ℕ → Row → Reply → Offered
-answered r p M O.Taken = record { answer = O.Taken; recovery = keeping r p M }
-answered r p M O.Repeated = saying r O.Repeated
-answered r p M (O.Refused j) = saying r (O.Refused j)
+-- the record of p with the kind k and the mourned set M is kept
+unfoldable pub keeping : Recovery → ℕ → Kind → Row → Recovery
+keeping r p Full M = keepingRow (keepingFull r p M) p M
+keeping r p Short M = keepingRow r p M
 
--- a record of the group: of p, with the mourned set M
-unfoldable pub entered : Recovery → ℕ → Row → Offered
-entered r p M = answered r p M (entering (r .kind) (r .count) (has (r .returned)) (r .rows) p M)
+-- what a reply to the record of p leaves: one that is taken is kept, otherwise the recovery stays as it is
+unfoldable pub answered : Recovery → ℕ → Kind → Row → Reply → Offered
+answered r p k M O.Taken = record { answer = O.Taken; recovery = keeping r p k M }
+answered r p k M O.Repeated = saying r O.Repeated
+answered r p k M (O.Refused j) = saying r (O.Refused j)
+
+-- a record of the group: of p, with the kind k and the mourned set M
+unfoldable pub entered : Recovery → ℕ → Kind → Row → Offered
+entered r p k M = answered r p k M (entering (r .count) (has (r .returned)) (has (r .full)) (r .rows) p k M)
 
 -- a sound record
 unfoldable pub judged : Recovery → Stored → Offered
-judged r x = cond (ofGroup r x) (entered r (x .own) (x .mourned)) (saying r (O.Refused 9))
+judged r x = cond (ofGroup r x) (entered r (x .own) (x .kind) (x .mourned)) (saying r (O.Refused 9))
 
 unfoldable pub offeredAs : Recovery → Parsed Stored → Offered
 offeredAs r (got x rest) = judged r x
@@ -145,7 +167,7 @@ offered r bytes = offeredAs r (lone (aliasOf r) bytes)
 -- ---- asking: 12, or the answer
 
 unfoldable pub answerAt : Recovery → ℕ → Answer
-answerAt r i = answerBy (r .kind) (sizeOf r) (acceptedOf r) (has (r .mourned)) i
+answerAt r i = answerBy (sizeOf r) (acceptedOf r) (has (r .mourned)) (has (r .earlier)) i
 
 unfoldable pub askedAs : Answer → Asked
 askedAs is-last = A.Last
@@ -158,13 +180,13 @@ asked r i = cond (ltb i (sizeOf r)) (askedAs (answerAt r i)) (A.Refused 12)
 -- ---- showing: 12, decided, 13, or both histories laid down
 
 unfoldable pub shown : Recovery → ℕ → List ℕ → List ℕ → Shown
-shown r i a b = shownIn (r .kind) (sizeOf r) (acceptedOf r) (has (r .mourned)) (rowsOf (r .rows)) i a b
+shown r i a b = shownIn (sizeOf r) (acceptedOf r) (has (r .mourned)) (has (r .earlier)) (rowsOf (r .rows)) i a b
 
 -- ---- checking a lent history: 13, 15, or whether it fits
 
 unfoldable pub checkedRows : Recovery → History → Checked
 checkedRows r H =
-    cond (offRoster (sizeOf r) H) (C.Refused 15) (cond (fitsTest (r .kind) (sizeOf r) (acceptedOf r) H) C.Fits C.FitsNot)
+    cond (offRoster (sizeOf r) H) (C.Refused 15) (cond (fitsTest (sizeOf r) (acceptedOf r) H) C.Fits C.FitsNot)
 
 unfoldable pub checked : Recovery → List ℕ → Checked
 checked r h = cond (leb (16 * sizeOf r) (length h)) (checkedRows r (historyIn (sizeOf r) h)) (C.Refused 13)
@@ -172,7 +194,7 @@ checked r h = cond (leb (16 * sizeOf r) (length h)) (checkedRows r (historyIn (s
 -- ---- the whole, the two sets and the number
 
 unfoldable pub settledOf : Recovery → Bool
-settledOf r = settledBy (r .kind) (sizeOf r) (acceptedOf r) (has (r .mourned))
+settledOf r = settledBy (sizeOf r) (acceptedOf r) (has (r .mourned)) (has (r .earlier))
 
 unfoldable pub unmournedOf : Recovery → Row
 unmournedOf r = difference (below (sizeOf r)) (has (r .mourned))
@@ -192,12 +214,13 @@ foundIn r x = finding (aliasOf r) (rosterOf r) x
 
 unfoldable pub withSecond : Recovery → ℕ → ℕ → Recovery
 withSecond r p x = record {
-  kind = r .kind;
   count = r .count;
   serials = r .serials;
   seconds = set (r .seconds) p x;
   returned = r .returned;
+  full = r .full;
   mourned = r .mourned;
+  earlier = r .earlier;
   rows = r .rows;
 }
 
@@ -213,7 +236,7 @@ given r p x = gaveAs r p x (giving (r .count) (r .serials) (r .seconds) p x)
 
 -- the accepted record of p
 unfoldable pub recordOf : Recovery → ℕ → Stored
-recordOf r p = record { kind = r .kind; own = p; roster = rosterOf r; mourned = acceptedOf r .row p }
+recordOf r p = record { kind = acceptedOf r .kind p; own = p; roster = rosterOf r; mourned = acceptedOf r .row p }
 
 unfoldable pub writtenOf : Recovery → ℕ → List ℕ → ℕ → Written
 writtenOf r p out at =

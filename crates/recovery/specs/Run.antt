@@ -115,5 +115,5 @@ left r [] = r
 left r (c ∷ cs) = left (next r c) cs
 
 -- the recovery after an opening and a list of calls
-abbrev pub reached : ℕ → List ℕ → List Call → Recovery
-reached kind roster cs = left (opened kind roster .recovery) cs
+abbrev pub reached : List ℕ → List Call → Recovery
+reached roster cs = left (opened roster .recovery) cs

@@ -1,14 +1,13 @@
-// A recovery: the kind, the roster and the second serials of a group, who is back, and their rows. It goes in by value and comes back by
+// A recovery: the roster and the second serials of a group, who is back, and the kinds and rows of their records. It goes in by value and comes back by
 // value, and keeps nothing that depends on the order in which records came. The definitions that the contracts cite stand in
 // specs/Contracts.antt; demand 3, over whole lists of calls, in specs/Demand.antt and proofs/Demand.antt.
 ghost use mathlib.Core.Path.{_≡_};
 ghost use Prim.Native.Nat.{_≤_, _<_};
 ghost use lib.ListN.{length};
 ghost use Rattle.places.specs.PlaceSets.{has};
-ghost use Rattle.rosters.specs.Rosters.{listed};
 ghost use Rattle.replies.specs.Replies.{judgement};
 ghost use Rattle.recovery.specs.Contracts as contracts;
-ghost use Rattle.recovery.specs.Contracts.{opened, openedAs, saying, keeping, answered, offered, asked, shown, checked, settledOf, unmournedOf, unmournedAbsentOf, unmournedCountOf, foundIn, withSecond, given, writtenOf};
+ghost use Rattle.recovery.specs.Contracts.{opened, saying, keepingFull, keepingRow, keeping, answered, offered, asked, shown, checked, settledOf, unmournedOf, unmournedAbsentOf, unmournedCountOf, foundIn, withSecond, given, writtenOf};
 use answers::Answer;
 use groups::Giving;
 use histories::Kind;
@@ -25,14 +24,16 @@ use rows::Rows;
 use shows::Showing;
 
 // The first `count` of `serials` are the roster, and `seconds` has the second serial of each place, 0 where it was given none. A place in
-// `returned` is back, and its row is its record's mourned set; every other row is empty. `mourned` has all that stand in a row.
+// `returned` is back, and its row is its record's mourned set; every other row is empty. `full` has those back whose record is full,
+// `mourned` all that stand in a row, and `earlier` those before a place of `full`.
 pub struct Recovery {
-    pub kind: Kind,
     pub count: usize,
     pub serials: [u32; 128],
     pub seconds: [u32; 128],
     pub returned: PlaceSet,
+    pub full: PlaceSet,
     pub mourned: PlaceSet,
+    pub earlier: PlaceSet,
     pub rows: Rows,
 }
 
@@ -73,21 +74,22 @@ pub enum Checked {
 }
 
 // A recovery with this roster, and nobody back.
-fn fresh(kind: Kind, list: &[u32]) -> Recovery
+fn fresh(list: &[u32]) -> Recovery
     requires { ⌜ length (now list) ≤ 128 ⌝ }
-    ensures { λ r. ⌜ r ≡ contracts.fresh kind (now (list .entry)) ⌝ }
+    ensures { λ r. ⌜ r ≡ contracts.fresh (now (list .entry)) ⌝ }
 {
     let serials = rosters::padded(list);
     let seconds = [0u32; 128];
     let nobody = places::empty();
     let rows = rows::none();
     Recovery {
-        kind,
         count: list.len(),
         serials,
         seconds,
         returned: nobody,
+        full: nobody,
         mourned: nobody,
+        earlier: nobody,
         rows,
     }
 }
@@ -100,12 +102,13 @@ fn unopened(fault: u8) -> Opened
     let nobody = places::empty();
     let rows = rows::none();
     let recovery = Recovery {
-        kind: Kind::Full,
         count: 0,
         serials,
         seconds: serials,
         returned: nobody,
+        full: nobody,
         mourned: nobody,
+        earlier: nobody,
         rows,
     };
     Opened {
@@ -114,14 +117,14 @@ fn unopened(fault: u8) -> Opened
     }
 }
 
-// Opening with a known kind: 3, 4, 5, or opened.
-fn open_as(kind: Kind, list: &[u32]) -> Opened
-    ensures { λ s. ⌜ s ≡ openedAs kind (now (list .entry)) (listed (now (list .entry))) ⌝ }
+// Opens a recovery from a list of serials: 3, 4, 5, or opened.
+pub fn open(list: &[u32]) -> Opened
+    ensures { λ s. ⌜ s ≡ opened (now (list .entry)) ⌝ }
 {
     let found = rosters::check(list);
     match found {
         Listed::Sound => {
-            let recovery = fresh(kind, list);
+            let recovery = fresh(list);
             Opened {
                 answer: Opening::Opened,
                 recovery,
@@ -131,20 +134,21 @@ fn open_as(kind: Kind, list: &[u32]) -> Opened
     }
 }
 
-// Opens a recovery from a kind byte and a list of serials: 2, 3, 4, 5, or opened.
-pub fn open(kind: u8, list: &[u32]) -> Opened
-    ensures { λ s. ⌜ s ≡ opened kind (now (list .entry)) ⌝ }
+// The recovery with a place that is full, and whose mourned set is known.
+fn keep_full(r: Recovery, own: Place, mourned: PlaceSet) -> Recovery
+    ensures { λ s. ⌜ s ≡ keepingFull r (own .0) (has mourned) ⌝ }
 {
-    match kind {
-        1 => open_as(Kind::Full, list),
-        2 => open_as(Kind::Short, list),
-        0 | 3..=255 => unopened(2),
-    }
+    let mut next = r;
+    let full = next.full;
+    next.full = places::with(full, own);
+    let earlier = next.earlier;
+    next.earlier = places::union(earlier, mourned);
+    next
 }
 
-// The recovery with the record of a place, as taking it leaves it.
-fn keep(r: Recovery, own: Place, mourned: PlaceSet) -> Recovery
-    ensures { λ s. ⌜ s ≡ keeping r (own .0) (has mourned) ⌝ }
+// The recovery with a place that is back, and its row.
+fn keep_row(r: Recovery, own: Place, mourned: PlaceSet) -> Recovery
+    ensures { λ s. ⌜ s ≡ keepingRow r (own .0) (has mourned) ⌝ }
 {
     let mut next = r;
     let returned = next.returned;
@@ -153,6 +157,19 @@ fn keep(r: Recovery, own: Place, mourned: PlaceSet) -> Recovery
     next.mourned = places::union(named, mourned);
     rows::set(&mut next.rows, own, mourned);
     next
+}
+
+// The recovery with the record of a place, as taking it leaves it.
+fn keep(r: Recovery, own: Place, kind: Kind, mourned: PlaceSet) -> Recovery
+    ensures { λ s. ⌜ s ≡ keeping r (own .0) kind (has mourned) ⌝ }
+{
+    match kind {
+        Kind::Full => {
+            let marked = keep_full(r, own, mourned);
+            keep_row(marked, own, mourned)
+        }
+        Kind::Short => keep_row(r, own, mourned),
+    }
 }
 
 // What offering says where the recovery stays as it is.
@@ -166,12 +183,12 @@ fn say(r: Recovery, answer: Reply) -> Offered
 }
 
 // What an answer to a record leaves.
-fn apply(r: Recovery, own: Place, mourned: PlaceSet, answer: Reply) -> Offered
-    ensures { λ s. ⌜ s ≡ answered r (own .0) (has mourned) answer ⌝ }
+fn apply(r: Recovery, own: Place, kind: Kind, mourned: PlaceSet, answer: Reply) -> Offered
+    ensures { λ s. ⌜ s ≡ answered r (own .0) kind (has mourned) answer ⌝ }
 {
     match answer {
         Reply::Taken => {
-            let next = keep(r, own, mourned);
+            let next = keep(r, own, kind, mourned);
             Offered {
                 answer: Reply::Taken,
                 recovery: next,
@@ -184,14 +201,15 @@ fn apply(r: Recovery, own: Place, mourned: PlaceSet, answer: Reply) -> Offered
 
 // Offers a record that was read from some bytes: 9, repeated or 10, 11, or taken.
 pub fn offer_read(r: Recovery, bytes: &[u8], x: Record) -> Offered
-    ensures { λ s. ⌜ s ≡ answered r (x .own .0) (has (x .mourned)) (judgement (r .kind) (r .count) (r .serials) (has (r .returned)) (r .rows) (now (bytes .entry)) x) ⌝ }
+    ensures { λ s. ⌜ s ≡ answered r (x .own .0) (x .kind) (has (x .mourned)) (judgement (r .count) (r .serials) (has (r .returned)) (has (r .full)) (r .rows) (now (bytes .entry)) x) ⌝ }
 {
-    let kind = r.kind;
     let returned = r.returned;
-    let answer = replies::judge(kind, r.count, &r.serials, returned, &r.rows, bytes, x);
+    let full = r.full;
+    let answer = replies::judge(r.count, &r.serials, returned, full, &r.rows, bytes, x);
     let own = x.own;
+    let kind = x.kind;
     let mourned = x.mourned;
-    apply(r, own, mourned, answer)
+    apply(r, own, kind, mourned, answer)
 }
 
 // Offers a lone record: 1 to 8, 9, repeated or 10, 11, or taken. Its own and mourned serials may be second ones of the group.
@@ -210,14 +228,15 @@ pub fn ask(r: Recovery, place: Place) -> Asked
     ensures { λ s. ⌜ s ≡ asked r (place .0) ⌝ }
 {
     let count = r.count;
-    let kind = r.kind;
     let returned = r.returned;
+    let full = r.full;
     let mourned = r.mourned;
+    let earlier = r.earlier;
     let n = answers::size(count);
     if n <= place.0 {
         return Asked::Refused(12);
     }
-    let answer = answers::answer_for(kind, &r.rows, returned, mourned, count, place);
+    let answer = answers::answer_for(&r.rows, returned, full, mourned, earlier, count, place);
     match answer {
         Answer::Last => Asked::Last,
         Answer::NotLast => Asked::NotLast,
@@ -291,10 +310,11 @@ pub fn unmourned_count(r: Recovery) -> usize
 pub fn settled(r: Recovery) -> bool
     ensures { λ s. ⌜ s ≡ settledOf r ⌝ }
 {
-    let kind = r.kind;
     let returned = r.returned;
+    let full = r.full;
     let mourned = r.mourned;
-    answers::settled(kind, &r.rows, returned, mourned, r.count)
+    let earlier = r.earlier;
+    answers::settled(&r.rows, returned, full, mourned, earlier, r.count)
 }
 
 // Checks a lent history: 13, 15, or whether it fits.
@@ -302,8 +322,8 @@ pub fn check(r: Recovery, history: &[u8]) -> Checked
     ensures { λ s. ⌜ s ≡ checked r (now (history .entry)) ⌝ }
 {
     let count = r.count;
-    let kind = r.kind;
     let returned = r.returned;
+    let full = r.full;
     let n = answers::size(count);
     if history.len() < 16 * n {
         return Checked::Refused(13);
@@ -311,7 +331,7 @@ pub fn check(r: Recovery, history: &[u8]) -> Checked
     if checks::off_roster(history, count) {
         return Checked::Refused(15);
     }
-    if checks::fits(kind, &r.rows, returned, count, history) {
+    if checks::fits(&r.rows, returned, full, count, history) {
         return Checked::Fits;
     }
     Checked::FitsNot
@@ -323,8 +343,8 @@ pub fn write(r: Recovery, place: Place, out: &mut [u8], at: usize) -> Writing
     ensures { λ s. ⌜ now (out .exit) ≡ writtenOf r (place .0) (now (out .entry)) at .buffer ⌝ }
 {
     let count = r.count;
-    let kind = r.kind;
     let returned = r.returned;
+    let full = r.full;
     let n = answers::size(count);
     if n <= place.0 {
         return Writing::Refused(12);
@@ -332,6 +352,7 @@ pub fn write(r: Recovery, place: Place, out: &mut [u8], at: usize) -> Writing
     if !places::contains(returned, place) {
         return Writing::Refused(14);
     }
+    let kind = answers::kind_of(full, place);
     let row = answers::recorded(&r.rows, returned, count, place);
     let serials = r.serials;
     writes::write(kind, place, &serials[..n], row, out, at)
@@ -343,14 +364,16 @@ pub fn show(r: Recovery, place: Place, first: &mut [u8], second: &mut [u8]) -> S
     ensures { λ s. ⌜ now (first .exit) ≡ shown r (place .0) (now (first .entry)) (now (second .entry)) .first ⌝ }
     ensures { λ s. ⌜ now (second .exit) ≡ shown r (place .0) (now (first .entry)) (now (second .entry)) .second ⌝ }
 {
-    let kind = r.kind;
     let returned = r.returned;
+    let full = r.full;
     let mourned = r.mourned;
+    let earlier = r.earlier;
     shows::show(
-        kind,
         &r.rows,
         returned,
+        full,
         mourned,
+        earlier,
         r.count,
         place,
         first,

@@ -21,16 +21,18 @@ sameKind Full Short = false
 sameKind Short Full = false
 sameKind Short Short = true
 
--- a record of the group, of p with the mourned set M: of one that is back it is repeated or 10, of another taken or 11
-unfoldable pub entering : Kind → ℕ → Places → List ℕ → ℕ → Row → Reply
-entering k count returned w p M =
-    cond (acceptedIn count returned w .returned p)
-    (cond (same (size count) M (acceptedIn count returned w .row p)) Repeated (Refused 10))
-    (cond (accepts k (size count) (acceptedIn count returned w) p M) Taken (Refused 11))
+-- a record of the group, of p with the kind k and the mourned set M: of one that is back it is repeated, or 10 where the kind or the mourned
+-- set is another, of another place taken or 11
+unfoldable pub entering : ℕ → Places → Places → List ℕ → ℕ → Kind → Row → Reply
+entering count returned full w p k M =
+    let A = acceptedIn count returned full w in
+    cond (A .returned p)
+    (cond (sameKind k (A .kind p) && same (size count) M (A .row p)) Repeated (Refused 10))
+    (cond (accepts (size count) A p k M) Taken (Refused 11))
 
--- a record that was read from the bytes b: 9 where its kind or its roster, order included, is not the group's
-unfoldable pub judgement : Kind → ℕ → List ℕ → Places → List ℕ → List ℕ → Record → Reply
-judgement k count serials returned w b x =
-    cond (sameKind (x .kind) k && rosterIs b (x .roster) (x .count) (take (size count) serials))
-    (entering k count returned w (x .own .0) (has (x .mourned)))
+-- a record that was read from the bytes b: 9 where its roster, order included, is not the group's
+unfoldable pub judgement : ℕ → List ℕ → Places → Places → List ℕ → List ℕ → Record → Reply
+judgement count serials returned full w b x =
+    cond (rosterIs b (x .roster) (x .count) (take (size count) serials))
+    (entering count returned full w (x .own .0) (x .kind) (has (x .mourned)))
     (Refused 9)

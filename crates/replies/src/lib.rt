@@ -1,6 +1,6 @@
 // What a group replies to a record that was read, judged by the parts of a recovery: no copy of the whole is needed.
 ghost use mathlib.Core.Path.{_≡_};
-ghost use mathlib.Core.Bool.{true, cond};
+ghost use mathlib.Core.Bool.{true, cond, _&&_};
 ghost use Prim.Native.Nat.{_≤_};
 ghost use lib.ListN.{length, take};
 ghost use Rattle.places.specs.Sets as sets;
@@ -37,11 +37,23 @@ fn same_kind(a: Kind, b: Kind) -> bool
     }
 }
 
-// Of one that is back: the same mourned set again, or 10.
-fn again(rows: &Rows, returned: PlaceSet, count: usize, own: Place, mourned: PlaceSet) -> Reply
-    requires { ⌜ acceptedIn count (has returned) (now rows) .returned (own .0) ≡ true ⌝ }
-    ensures { λ s. ⌜ s ≡ cond (sets.same (size count) (has mourned) (acceptedIn count (has returned) (now (rows .entry)) .row (own .0))) reply.Repeated (reply.Refused 10) ⌝ }
+// Of one that is back: the same kind and mourned set again, or 10.
+fn again(
+    kind: Kind,
+    rows: &Rows,
+    returned: PlaceSet,
+    full: PlaceSet,
+    count: usize,
+    own: Place,
+    mourned: PlaceSet,
+) -> Reply
+    requires { ⌜ acceptedIn count (has returned) (has full) (now rows) .returned (own .0) ≡ true ⌝ }
+    ensures { λ s. ⌜ s ≡ cond (sameKind kind (acceptedIn count (has returned) (has full) (now (rows .entry)) .kind (own .0)) && sets.same (size count) (has mourned) (acceptedIn count (has returned) (has full) (now (rows .entry)) .row (own .0))) reply.Repeated (reply.Refused 10) ⌝ }
 {
+    let first = answers::kind_of(full, own);
+    if !same_kind(kind, first) {
+        return Reply::Refused(10);
+    }
     let all = places::below(count);
     let row = answers::recorded(rows, returned, count, own);
     let named = places::intersection(all, mourned);
@@ -56,18 +68,19 @@ fn enter(
     kind: Kind,
     rows: &Rows,
     returned: PlaceSet,
+    full: PlaceSet,
     count: usize,
     own: Place,
     mourned: PlaceSet,
 ) -> Reply
-    ensures { λ s. ⌜ s ≡ entering kind count (has returned) (now (rows .entry)) (own .0) (has mourned) ⌝ }
+    ensures { λ s. ⌜ s ≡ entering count (has returned) (has full) (now (rows .entry)) (own .0) kind (has mourned) ⌝ }
 {
     let all = places::below(count);
     let back = places::intersection(all, returned);
     if places::contains(back, own) {
-        return again(rows, returned, count, own, mourned);
+        return again(kind, rows, returned, full, count, own, mourned);
     }
-    if answers::accepts(kind, rows, returned, count, own, mourned) {
+    if answers::accepts(kind, rows, returned, full, count, own, mourned) {
         return Reply::Taken;
     }
     Reply::Refused(11)
@@ -75,27 +88,24 @@ fn enter(
 
 // What a record that was read from some bytes meets in a group, judged without a copy of the recovery: 9, or as a record of it.
 pub fn judge<'a>(
-    kind: Kind,
     count: usize,
     serials: &'a [u32],
     returned: PlaceSet,
+    full: PlaceSet,
     rows: &'a Rows,
     bytes: &[u8],
     x: Record,
 ) -> Reply
-    ensures { λ s. ⌜ s ≡ judgement kind count (now (serials .entry)) (has returned) (now (rows .entry)) (now (bytes .entry)) x ⌝ }
+    ensures { λ s. ⌜ s ≡ judgement count (now (serials .entry)) (has returned) (has full) (now (rows .entry)) (now (bytes .entry)) x ⌝ }
 {
     let n = groups::roster_length(count, serials);
-    let theirs = x.kind;
-    if !same_kind(theirs, kind) {
-        return Reply::Refused(9);
-    }
     let at = x.roster;
     let m = x.count;
     if !records::roster_is(bytes, at, m, &serials[..n]) {
         return Reply::Refused(9);
     }
+    let kind = x.kind;
     let own = x.own;
     let mourned = x.mourned;
-    enter(kind, rows, returned, count, own, mourned)
+    enter(kind, rows, returned, full, count, own, mourned)
 }

@@ -9,39 +9,39 @@ use lib.Dec.{leb}
 use borrow.Author.Tests.{lt-ltb, le-ltb, le-leb, lt-leb}
 use Rattle.places.specs.Sets.{with, lowest}
 use Rattle.places.proofs.Booleans.{clash, is-false, and-intro, and-right}
-use Rattle.histories.specs.declared.Kind.{Kind}
 use Rattle.histories.specs.Histories.{Row, History, Accepted}
-use Rattle.histories.specs.Rule.{Answer, is-last, not-last, is-open, blockersBy, answerBy, inherited}
+use Rattle.histories.specs.Rule.{Answer, is-last, not-last, is-open, before}
+use Rattle.histories.specs.Kept.{blockersBy, answerBy}
 use Rattle.rows.specs.Rows.{laid}
 use Rattle.shows.specs.declared.Showing.the-variants as S
 use Rattle.shows.specs.Shows.{unshown, replaced, shownOpen, shownAs, shownIn}
 
-module _ (k : Kind) (n : ℕ) (A : Accepted) (M : Row) (H : History) (i : ℕ) (a b : List ℕ) where
-  pub shown-off : n ≤ i → shownIn k n A M H i a b ≡ unshown (S.Refused 12) a b
+module _ (n : ℕ) (A : Accepted) (M F : Row) (H : History) (i : ℕ) (a b : List ℕ) where
+  pub shown-off : n ≤ i → shownIn n A M F H i a b ≡ unshown (S.Refused 12) a b
   unfolding shownIn
-  shown-off l = ap (λ (t : Bool). cond t (shownAs (answerBy k n A M i) k n A M H i a b) (unshown (S.Refused 12) a b)) (le-ltb i n l)
+  shown-off l = ap (λ (t : Bool). cond t (shownAs (answerBy n A M F i) n A M F H i a b) (unshown (S.Refused 12) a b)) (le-ltb i n l)
 
-  shown-at : (w : Answer) → i < n → answerBy k n A M i ≡ w → shownIn k n A M H i a b ≡ shownAs w k n A M H i a b
+  shown-at : (w : Answer) → i < n → answerBy n A M F i ≡ w → shownIn n A M F H i a b ≡ shownAs w n A M F H i a b
   unfolding shownIn
-  shown-at w l e = ap₂ (λ (t : Bool) (w : Answer). cond t (shownAs w k n A M H i a b) (unshown (S.Refused 12) a b)) (lt-ltb i n l) e
+  shown-at w l e = ap₂ (λ (t : Bool) (w : Answer). cond t (shownAs w n A M F H i a b) (unshown (S.Refused 12) a b)) (lt-ltb i n l) e
 
-  pub shown-last : i < n → answerBy k n A M i ≡ is-last → shownIn k n A M H i a b ≡ unshown S.Decided a b
+  pub shown-last : i < n → answerBy n A M F i ≡ is-last → shownIn n A M F H i a b ≡ unshown S.Decided a b
   unfolding shownAs
   shown-last l e = shown-at is-last l e
 
-  pub shown-not : i < n → answerBy k n A M i ≡ not-last → shownIn k n A M H i a b ≡ unshown S.Decided a b
+  pub shown-not : i < n → answerBy n A M F i ≡ not-last → shownIn n A M F H i a b ≡ unshown S.Decided a b
   unfolding shownAs
   shown-not l e = shown-at not-last l e
 
-  module _ (l : i < n) (e : answerBy k n A M i ≡ is-open) where
+  module _ (l : i < n) (e : answerBy n A M F i ≡ is-open) where
     shown-open : (t : Bool) → leb (16 * n) (length a) && leb (16 * n) (length b) ≡ t
-        → shownIn k n A M H i a b ≡ cond t (record { answer = S.Shown; first = laid n H a; second = laid n (replaced H (lowest n (blockersBy k n A M i)) (with i (inherited k A i))) b }) (unshown (S.Refused 13) a b)
+        → shownIn n A M F H i a b ≡ cond t (record { answer = S.Shown; first = laid n H a; second = laid n (replaced H (lowest n (blockersBy n A F i)) (with i (before n A i))) b }) (unshown (S.Refused 13) a b)
     unfolding shownAs shownOpen
     shown-open t h =
         shown-at is-open l e
-        ∙ ap (λ (t : Bool). cond t (record { answer = S.Shown; first = laid n H a; second = laid n (replaced H (lowest n (blockersBy k n A M i)) (with i (inherited k A i))) b }) (unshown (S.Refused 13) a b)) h
+        ∙ ap (λ (t : Bool). cond t (record { answer = S.Shown; first = laid n H a; second = laid n (replaced H (lowest n (blockersBy n A F i)) (with i (before n A i))) b }) (unshown (S.Refused 13) a b)) h
 
-    pub shown-short : (length a < 16 * n) ⊎ (length b < 16 * n) → shownIn k n A M H i a b ≡ unshown (S.Refused 13) a b
+    pub shown-short : (length a < 16 * n) ⊎ (length b < 16 * n) → shownIn n A M F H i a b ≡ unshown (S.Refused 13) a b
     shown-short s = shown-open false (short s)
       where
         short : (length a < 16 * n) ⊎ (length b < 16 * n) → leb (16 * n) (length a) && leb (16 * n) (length b) ≡ false
@@ -49,5 +49,5 @@ module _ (k : Kind) (n : ℕ) (A : Accepted) (M : Row) (H : History) (i : ℕ) (
         short (inr s) = is-false _ (λ t. clash (and-right (leb (16 * n) (length a)) (leb (16 * n) (length b)) t) (lt-leb (16 * n) (length b) s))
 
     pub shown-both : 16 * n ≤ length a → 16 * n ≤ length b
-        → shownIn k n A M H i a b ≡ record { answer = S.Shown; first = laid n H a; second = laid n (replaced H (lowest n (blockersBy k n A M i)) (with i (inherited k A i))) b }
+        → shownIn n A M F H i a b ≡ record { answer = S.Shown; first = laid n H a; second = laid n (replaced H (lowest n (blockersBy n A F i)) (with i (before n A i))) b }
     shown-both u v = shown-open true (and-intro (le-leb (16 * n) (length a) u) (le-leb (16 * n) (length b) v))

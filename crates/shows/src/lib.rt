@@ -7,9 +7,9 @@ ghost use Rattle.places.specs.Sets as sets;
 ghost use Rattle.places.specs.PlaceSets.{has, kept};
 ghost use Rattle.histories.specs.Rule as rule;
 ghost use Rattle.rows.specs.Rows.{rowsOf};
-ghost use Rattle.answers.specs.Views.{size, acceptedIn};
+ghost use Rattle.histories.specs.Kept as keeping;
+ghost use Rattle.answers.specs.Views.{size, acceptedIn, recordedIn};
 ghost use Rattle.shows.specs.Shows.{laidIn, shownIn};
-use histories::Kind;
 use places::Found;
 use places::Place;
 use places::PlaceSet;
@@ -22,17 +22,12 @@ pub enum Showing {
     Refused(u8),
 }
 
-// What one that heard a place has in its row: the place, and in the full kind the place's recorded row.
-fn heard_row(kind: Kind, rows: &Rows, returned: PlaceSet, count: usize, place: Place) -> PlaceSet
-    ensures { λ s. ⌜ has s ≡ kept (sets.with (place .0) (rule.inherited kind (acceptedIn count (has returned) (now (rows .entry))) (place .0))) ⌝ }
+// What one that heard a place has in its row: the place, and all that is before it.
+fn heard_row(rows: &Rows, returned: PlaceSet, count: usize, place: Place) -> PlaceSet
+    ensures { λ s. ⌜ has s ≡ kept (sets.with (place .0) (rule.reach (size count) (recordedIn count (has returned) (now (rows .entry))) (place .0))) ⌝ }
 {
-    match kind {
-        Kind::Full => {
-            let own = answers::recorded(rows, returned, count, place);
-            places::with(own, place)
-        }
-        Kind::Short => places::only(place),
-    }
+    let own = answers::before(rows, returned, count, place);
+    places::with(own, place)
 }
 
 // Lays the first n rows into the front of both buffers. The copy is known to overlap neither buffer, so that each is one copy of memory.
@@ -60,21 +55,22 @@ fn lay_both(rows: &Rows, n: usize, first: &mut [u8], second: &mut [u8])
 
 // Shows a place that is open: 13, or both histories laid down, the second with another row for the lowest blocker.
 fn show_open(
-    kind: Kind,
     rows: &Rows,
     returned: PlaceSet,
+    full: PlaceSet,
     mourned: PlaceSet,
+    earlier: PlaceSet,
     count: usize,
     place: Place,
     blocker: Place,
     first: &mut [u8],
     second: &mut [u8],
 ) -> Showing
-    requires { ⌜ (place .0 < size count) × (rule.answerBy kind (size count) (acceptedIn count (has returned) (now rows)) (has mourned) (place .0) ≡ rule.is-open) ⌝ }
-    requires { ⌜ blocker .0 ≡ sets.lowest (size count) (rule.blockersBy kind (size count) (acceptedIn count (has returned) (now rows)) (has mourned) (place .0)) ⌝ }
-    ensures { λ s. ⌜ s ≡ shownIn kind (size count) (acceptedIn count (has returned) (now (rows .entry))) (has mourned) (rowsOf (now (rows .entry))) (place .0) (now (first .entry)) (now (second .entry)) .answer ⌝ }
-    ensures { λ s. ⌜ now (first .exit) ≡ shownIn kind (size count) (acceptedIn count (has returned) (now (rows .entry))) (has mourned) (rowsOf (now (rows .entry))) (place .0) (now (first .entry)) (now (second .entry)) .first ⌝ }
-    ensures { λ s. ⌜ now (second .exit) ≡ shownIn kind (size count) (acceptedIn count (has returned) (now (rows .entry))) (has mourned) (rowsOf (now (rows .entry))) (place .0) (now (first .entry)) (now (second .entry)) .second ⌝ }
+    requires { ⌜ (place .0 < size count) × (keeping.answerBy (size count) (acceptedIn count (has returned) (has full) (now rows)) (has mourned) (has earlier) (place .0) ≡ rule.is-open) ⌝ }
+    requires { ⌜ blocker .0 ≡ sets.lowest (size count) (keeping.blockersBy (size count) (acceptedIn count (has returned) (has full) (now rows)) (has earlier) (place .0)) ⌝ }
+    ensures { λ s. ⌜ s ≡ shownIn (size count) (acceptedIn count (has returned) (has full) (now (rows .entry))) (has mourned) (has earlier) (rowsOf (now (rows .entry))) (place .0) (now (first .entry)) (now (second .entry)) .answer ⌝ }
+    ensures { λ s. ⌜ now (first .exit) ≡ shownIn (size count) (acceptedIn count (has returned) (has full) (now (rows .entry))) (has mourned) (has earlier) (rowsOf (now (rows .entry))) (place .0) (now (first .entry)) (now (second .entry)) .first ⌝ }
+    ensures { λ s. ⌜ now (second .exit) ≡ shownIn (size count) (acceptedIn count (has returned) (has full) (now (rows .entry))) (has mourned) (has earlier) (rowsOf (now (rows .entry))) (place .0) (now (first .entry)) (now (second .entry)) .second ⌝ }
 {
     let n = answers::size(count);
     if first.len() < 16 * n {
@@ -83,7 +79,7 @@ fn show_open(
     if second.len() < 16 * n {
         return Showing::Refused(13);
     }
-    let heard = heard_row(kind, rows, returned, count, place);
+    let heard = heard_row(rows, returned, count, place);
     lay_both(rows, n, first, second);
     rows::put(second, 16 * blocker.0, heard);
     Showing::Shown
@@ -91,18 +87,19 @@ fn show_open(
 
 // Shows two histories that fit and differ on a place: 12, decided, 13, or both laid down.
 pub fn show(
-    kind: Kind,
     rows: &Rows,
     returned: PlaceSet,
+    full: PlaceSet,
     mourned: PlaceSet,
+    earlier: PlaceSet,
     count: usize,
     place: Place,
     first: &mut [u8],
     second: &mut [u8],
 ) -> Showing
-    ensures { λ s. ⌜ s ≡ shownIn kind (size count) (acceptedIn count (has returned) (now (rows .entry))) (has mourned) (rowsOf (now (rows .entry))) (place .0) (now (first .entry)) (now (second .entry)) .answer ⌝ }
-    ensures { λ s. ⌜ now (first .exit) ≡ shownIn kind (size count) (acceptedIn count (has returned) (now (rows .entry))) (has mourned) (rowsOf (now (rows .entry))) (place .0) (now (first .entry)) (now (second .entry)) .first ⌝ }
-    ensures { λ s. ⌜ now (second .exit) ≡ shownIn kind (size count) (acceptedIn count (has returned) (now (rows .entry))) (has mourned) (rowsOf (now (rows .entry))) (place .0) (now (first .entry)) (now (second .entry)) .second ⌝ }
+    ensures { λ s. ⌜ s ≡ shownIn (size count) (acceptedIn count (has returned) (has full) (now (rows .entry))) (has mourned) (has earlier) (rowsOf (now (rows .entry))) (place .0) (now (first .entry)) (now (second .entry)) .answer ⌝ }
+    ensures { λ s. ⌜ now (first .exit) ≡ shownIn (size count) (acceptedIn count (has returned) (has full) (now (rows .entry))) (has mourned) (has earlier) (rowsOf (now (rows .entry))) (place .0) (now (first .entry)) (now (second .entry)) .first ⌝ }
+    ensures { λ s. ⌜ now (second .exit) ≡ shownIn (size count) (acceptedIn count (has returned) (has full) (now (rows .entry))) (has mourned) (has earlier) (rowsOf (now (rows .entry))) (place .0) (now (first .entry)) (now (second .entry)) .second ⌝ }
 {
     if answers::size(count) <= place.0 {
         return Showing::Refused(12);
@@ -110,16 +107,17 @@ pub fn show(
     if places::contains(mourned, place) {
         return Showing::Decided;
     }
-    let blocking = answers::blockers(kind, rows, returned, mourned, count, place);
+    let blocking = answers::blockers(rows, returned, full, earlier, count, place);
     let found = places::lowest(blocking);
     let Found::At(blocker) = found else {
         return Showing::Decided;
     };
     show_open(
-        kind,
         rows,
         returned,
+        full,
         mourned,
+        earlier,
         count,
         place,
         blocker,

@@ -1,36 +1,52 @@
 -- `answers::accepts` meets its contract. Assumes nothing.
-use mathlib.Core.Path.{sym, ap, _∙_}
-use Rattle.places.specs.PlaceSets.{has}
-use Rattle.histories.specs.Rule as rule
-use Rattle.histories.specs.declared.Kind.{Kind}
-use Rattle.answers.specs.Views.{size, acceptedIn}
+use mathlib.Core.Path.{sym, _∙_}
+use borrow.Author.Tests.{not-true, not-false}
+use Rattle.answers.proofs.Acceptance.{preceding-is, accepts-circle, accepts-lacks, accepts-rest}
 use borrow.Author.Needs.{needs}
 use Rattle.answers.proofs.accepts.Statement.{statement}
 use Rattle.answers.proofs.accepts.Tie as tie
 
-enum-told : tie.Need-enum-told
-enum-told c = search needs
+without-requires : tie.Need-without-requires
+without-requires c κs = search needs
 
-accepts-full-requires : tie.Need-accepts-full-requires
-accepts-full-requires c κs = search needs
+reached-requires : tie.Need-reached-requires
+reached-requires c κs = search needs
 
-enum-told-2 : tie.Need-enum-told-2
-enum-told-2 c = search needs
-
-accepts-short-requires : tie.Need-accepts-short-requires
-accepts-short-requires c κs = search needs
+contains-requires : tie.Need-contains-requires
+contains-requires c κs = search needs
 
 returns : tie.Need-returns
 returns c =
-    let s = c .before .before .before .args in
-    c .accepts-full .ensures ∙ ap (λ (k : Kind). rule.accepts k (size (s .count)) (acceptedIn (s .count) (has (s .returned)) (s .rows .now)) (s .place .0) (has (s .row))) (sym (c .before .enum-told .given .1))
+    let r = c .before .before in
+    accepts-circle _ _ _ _ _ _ (preceding-is _ _ _ _ _ _ _ _ _ (r .before .without .ensures) (r .reached .ensures)) (sym (c .before .contains .ensures) ∙ c .if1 .taken)
+
+names-all-requires : tie.Need-names-all-requires
+names-all-requires c κs = search needs
 
 returns-2 : tie.Need-returns-2
 returns-2 c =
-    let s = c .before .before .before .args in
-    c .accepts-short .ensures ∙ ap (λ (k : Kind). rule.accepts k (size (s .count)) (acceptedIn (s .count) (has (s .returned)) (s .rows .now)) (s .place .0) (has (s .row))) (sym (c .before .enum-told2 .given .1))
+    let d = c .before .before .before in
+    let r = d .before in
+    accepts-lacks _ _ _ _ _ _ (preceding-is _ _ _ _ _ _ _ _ _ (r .before .without .ensures) (r .reached .ensures)) (sym (d .contains .ensures) ∙ c .before .before .if1 .left) _ (c .before .names-all .ensures) (not-true _ (c .if2 .taken))
+
+all-agree-requires : tie.Need-all-agree-requires
+all-agree-requires c κs = search needs
+
+returns-3 : tie.Need-returns-3
+returns-3 c =
+    let d = c .before .before .before .before in
+    let r = d .before in
+    accepts-rest _ _ _ _ _ _ (preceding-is _ _ _ _ _ _ _ _ _ (r .before .without .ensures) (r .reached .ensures)) (sym (d .contains .ensures) ∙ c .before .before .before .if1 .left) _ (c .before .before .names-all .ensures) (not-false _ (c .before .if2 .left)) _ (c .all-agree .ensures)
 
 pub accepts-spec : {M : Type 1} → statement M
 accepts-spec =
     tie.close
-    (tie.spec enum-told accepts-full-requires enum-told-2 accepts-short-requires returns returns-2)
+    (tie.spec
+    without-requires
+    reached-requires
+    contains-requires
+    returns
+    names-all-requires
+    returns-2
+    all-agree-requires
+    returns-3)

@@ -10,16 +10,16 @@ use Rattle.answers.proofs.settled.Statement.{statement}
 use Rattle.answers.proofs.settled.Tie as tie
 
 abbrev Inv-loop : tie.InvT-loop
-Inv-loop kind rows returned mourned count unasked₀ unasked = Passed kind (size count) (acceptedIn count (has returned) rows) (has mourned) unasked
+Inv-loop rows returned full earlier count unasked₀ unasked = Passed (size count) (acceptedIn count (has returned) (has full) rows) (has earlier) unasked₀ unasked
 
 abbrev μ-loop : tie.MeasureT-loop
-μ-loop kind rows returned mourned count unasked₀ unasked = Rattle.places.specs.Sets.count 128 (has unasked)
+μ-loop rows returned full earlier count unasked₀ unasked = Rattle.places.specs.Sets.count 128 (has unasked)
 
 unmourned-requires : tie.Need-unmourned-requires Inv-loop μ-loop
 unmourned-requires c κs = search needs
 
 loop-holds : tie.Need-loop-holds Inv-loop μ-loop
-loop-holds c = passed-none _ _ _ _ _ (c .unmourned .ensures)
+loop-holds c = passed-none _ _ _ _
 
 lowest-requires : tie.Need-lowest-requires Inv-loop μ-loop
 lowest-requires c κs = search needs
@@ -31,7 +31,7 @@ enum-told : tie.Need-enum-told Inv-loop μ-loop
 enum-told c = search needs
 
 returns : tie.Need-returns Inv-loop μ-loop
-returns c = settled-all _ _ _ _ _ (c .before .before .before .loop .inv) (lowest-nothing 128 _ (sym (c .before .before .lowest .ensures) ∙ c .enum-told .given .1))
+returns c = settled-all _ _ _ _ _ _ (c .before .before .before .before .unmourned .ensures) (c .before .before .before .loop .inv) (lowest-nothing 128 _ (sym (c .before .before .lowest .ensures) ∙ c .enum-told .given .1))
 
 blocked-requires : tie.Need-blocked-requires Inv-loop μ-loop
 blocked-requires c κs = search needs
@@ -40,7 +40,7 @@ returns-2 : tie.Need-returns-2 Inv-loop μ-loop
 returns-2 c =
     let b = c .before in
     let low = lowest-found 128 _ _ (sym (b .before .before .before .before .lowest .ensures) ∙ b .before .before .found .given .1) in
-    settled-open _ _ _ _ _ (b .before .before .before .before .before .loop .inv) _ (low .0)
+    settled-open _ _ _ _ _ _ (b .before .before .before .before .before .before .unmourned .ensures) (b .before .before .before .before .before .loop .inv) _ (low .0)
     (sym (b .blocked .ensures) ∙ c .if1 .taken)
 
 without-requires : tie.Need-without-requires Inv-loop μ-loop

@@ -4,12 +4,12 @@ use Rattle.capi.specs.Boundary.{dayNow}
 use Rattle.capi.proofs.day_now.Statement.{statement}
 use Rattle.capi.proofs.day_now.Tie as tie
 
-write-set-requires : tie.Need-write-set-requires
-write-set-requires c κs = search needs
+write-stopped-requires : tie.Need-write-stopped-requires
+write-stopped-requires c κs = search needs
 
 returns : tie.Need-returns
 unfolding dayNow
-returns c = rw (c .write-set .ensures)
+returns c = rw (c .write-stopped .ensures)
 
 pub day-now-spec : {M : Type 1} → statement M
-day-now-spec = tie.close (tie.spec write-set-requires returns)
+day-now-spec = tie.close (tie.spec write-stopped-requires returns)

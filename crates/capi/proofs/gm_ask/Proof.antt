@@ -10,18 +10,14 @@ use Rattle.capi.proofs.gm_ask.Tie as tie
 read-head-requires : tie.Need-read-head-requires
 read-head-requires c κs = search needs
 
-read-set-requires : tie.Need-read-set-requires
-read-set-requires c κs = search needs
-
 size-requires : tie.Need-size-requires
 size-requires c κs = search needs
 
 returns : tie.Need-returns
 returns c = λ serials seconds.
     let s = c .before in
-    let m = s .before in
-    let h = m .before .before .before in
-    ask-off _ _ _ _ (h .read-head .ensures) (m .read-set .ensures) _ _ _ _ (omega (arith, s .size .ensures .0))
+    let h = s .before .before .before .before .before in
+    ask-off _ _ (h .read-head .ensures) _ _ _ _ (omega (arith, s .size .ensures .0))
 
 answer-for-requires : tie.Need-answer-for-requires
 answer-for-requires c κs = search needs
@@ -40,33 +36,30 @@ unfolding askedCode
 returns-2 c = λ serials seconds.
     let a = c .before .before in
     let s = a .before .before in
-    let m = s .before in
-    let h = m .before .before .before in
-    ask-on _ _ _ _ (h .read-head .ensures) (m .read-set .ensures) _ _ _ _ (omega (arith, s .size .ensures .0)) _ (sym (c .enum-told .given .1) ∙ a .answer-for .ensures)
+    let h = s .before .before .before .before .before in
+    ask-on _ _ (h .read-head .ensures) _ _ _ _ (omega (arith, s .size .ensures .0)) _ (sym (c .enum-told .given .1) ∙ a .answer-for .ensures)
 
 returns-3 : tie.Need-returns-3
 unfolding askedCode
 returns-3 c = λ serials seconds.
     let a = c .before .before in
     let s = a .before .before in
-    let m = s .before in
-    let h = m .before .before .before in
-    ask-on _ _ _ _ (h .read-head .ensures) (m .read-set .ensures) _ _ _ _ (omega (arith, s .size .ensures .0)) _ (sym (c .enum-told2 .given .1) ∙ a .answer-for .ensures)
+    let h = s .before .before .before .before .before in
+    ask-on _ _ (h .read-head .ensures) _ _ _ _ (omega (arith, s .size .ensures .0)) _ (sym (c .enum-told2 .given .1) ∙ a .answer-for .ensures)
 
 returns-4 : tie.Need-returns-4
 unfolding askedCode
 returns-4 c = λ serials seconds.
     let a = c .before .before in
     let s = a .before .before in
-    let m = s .before in
-    let h = m .before .before .before in
-    ask-on _ _ _ _ (h .read-head .ensures) (m .read-set .ensures) _ _ _ _ (omega (arith, s .size .ensures .0)) _ (sym (c .enum-told3 .given .1) ∙ a .answer-for .ensures)
+    let h = s .before .before .before .before .before in
+    ask-on _ _ (h .read-head .ensures) _ _ _ _ (omega (arith, s .size .ensures .0)) _ (sym (c .enum-told3 .given .1) ∙ a .answer-for .ensures)
 
 pub gm-ask-spec : {M : Type 1} → statement M
 gm-ask-spec =
     tie.close
     (tie.spec
-    read-head-requires read-set-requires
+    read-head-requires
     size-requires
     returns
     answer-for-requires

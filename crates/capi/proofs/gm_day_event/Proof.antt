@@ -11,14 +11,14 @@ day-in-requires c κs = search needs
 happen-requires : tie.Need-happen-requires
 happen-requires c κs = search needs
 
-write-set-requires : tie.Need-write-set-requires
-write-set-requires c κs = search needs
+write-stopped-requires : tie.Need-write-stopped-requires
+write-stopped-requires c κs = search needs
 
 returns : tie.Need-returns
 unfolding eventOf
 returns c =
     let x = c .before .before .before .before .before in
-    event-is _ _ _ _ _ _ _ (x .before .day-in .ensures) (x .happen .ensures) (c .write-set .ensures)
+    event-is _ _ _ _ _ _ _ (x .before .day-in .ensures) (x .happen .ensures) (c .write-stopped .ensures)
 
 pub gm-day-event-spec : {M : Type 1} → statement M
-gm-day-event-spec = tie.close (tie.spec day-in-requires happen-requires write-set-requires returns)
+gm-day-event-spec = tie.close (tie.spec day-in-requires happen-requires write-stopped-requires returns)

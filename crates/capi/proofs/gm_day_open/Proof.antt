@@ -10,8 +10,8 @@ open-requires c κs = search needs
 enum-told : tie.Need-enum-told
 enum-told c = search needs
 
-write-head-requires : tie.Need-write-head-requires
-write-head-requires c κs = search needs
+write-day-head-requires : tie.Need-write-day-head-requires
+write-day-head-requires c κs = search needs
 
 enum-known-answer : tie.Need-enum-known-answer
 enum-known-answer c = search needs
@@ -20,7 +20,7 @@ returns : tie.Need-returns
 returns c =
     let t = c .before .before in
     let o = t .before .before .before .before .before .before in
-    begins-done _ _ _ _ _ _ (o .open .ensures) (t .enum-told .given .1) _ (c .write-head .ensures)
+    begins-done _ _ _ _ _ _ (o .open .ensures) (t .enum-told .given .1) _ (c .write-day-head .ensures)
 
 returns-2 : tie.Need-returns-2
 returns-2 c =
@@ -31,4 +31,4 @@ returns-2 c =
 pub gm-day-open-spec : {M : Type 1} → statement M
 gm-day-open-spec =
     tie.close
-    (tie.spec open-requires enum-told write-head-requires enum-known-answer returns returns-2)
+    (tie.spec open-requires enum-told write-day-head-requires enum-known-answer returns returns-2)

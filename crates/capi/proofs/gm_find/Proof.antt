@@ -1,5 +1,4 @@
 -- `capi::gm_find` meets its contract. Assumes nothing.
-use mathlib.Core.Path.{refl}
 use borrow.Author.Needs.{needs}
 use Rattle.capi.proofs.Calls.{found-is}
 use Rattle.capi.proofs.gm_find.Statement.{statement}
@@ -15,8 +14,8 @@ found-now-requires : tie.Need-found-now-requires
 found-now-requires c κs = search needs
 
 returns : tie.Need-returns
-returns c = λ mourned rows.
-    found-is _ mourned _ _ (c .before .before .before .before .read-head .ensures) refl _ _ rows _ _ _ (c .found-now .ensures) (c .before .find .ensures)
+returns c = λ rows.
+    found-is _ _ (c .before .before .before .before .read-head .ensures) _ _ rows _ _ _ (c .found-now .ensures) (c .before .find .ensures)
 
 pub gm-find-spec : {M : Type 1} → statement M
 gm-find-spec = tie.close (tie.spec read-head-requires find-requires found-now-requires returns)

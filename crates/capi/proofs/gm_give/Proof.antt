@@ -35,13 +35,13 @@ returns : tie.Need-returns
 returns c =
     let m = c .before .before in
     let h = m .before .before .before .before in
-    (λ mourned rows. gives-given _ mourned _ _ (h .read-head .ensures) refl _ _ rows _ _ _ (m .may-give .ensures) (c .enum-told .given .1) _ refl .0, λ mourned rows. gives-given _ mourned _ _ (h .read-head .ensures) refl _ _ rows _ _ _ (m .may-give .ensures) (c .enum-told .given .1) _ refl .1)
+    (λ rows. gives-given _ _ (h .read-head .ensures) _ _ rows _ _ _ (m .may-give .ensures) (c .enum-told .given .1) _ refl .0, λ rows. gives-given _ _ (h .read-head .ensures) _ _ rows _ _ _ (m .may-give .ensures) (c .enum-told .given .1) _ refl .1)
 
 returns-2 : tie.Need-returns-2
 returns-2 c =
     let m = c .before .before .before in
     let h = m .before .before .before .before in
-    (λ mourned rows. gives-refused _ mourned _ _ (h .read-head .ensures) refl _ _ rows _ _ _ (m .may-give .ensures) _ (c .before .answer .given .1) .0, λ mourned rows. gives-refused _ mourned _ _ (h .read-head .ensures) refl _ _ rows _ _ _ (m .may-give .ensures) _ (c .before .answer .given .1) .1)
+    (λ rows. gives-refused _ _ (h .read-head .ensures) _ _ rows _ _ _ (m .may-give .ensures) _ (c .before .answer .given .1) .0, λ rows. gives-refused _ _ (h .read-head .ensures) _ _ rows _ _ _ (m .may-give .ensures) _ (c .before .answer .given .1) .1)
 
 pub gm-give-spec : {M : Type 1} → statement M
 gm-give-spec =

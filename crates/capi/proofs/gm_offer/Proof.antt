@@ -9,9 +9,6 @@ use Rattle.capi.proofs.gm_offer.Tie as tie
 read-head-requires : tie.Need-read-head-requires
 read-head-requires c κs = search needs
 
-read-set-requires : tie.Need-read-set-requires
-read-set-requires c κs = search needs
-
 read-lone-requires : tie.Need-read-lone-requires
 read-lone-requires c κs = search needs
 
@@ -29,27 +26,25 @@ enum-known-got-2 c = search needs
 
 returns : tie.Need-returns
 returns c =
-    let j = c .before .before .before .before .before .before in
+    let j = c .before .before .before .before .before in
     let g = j .before .before .before .before in
     let r = g .before .before in
-    offers-read _ _ _ _ _ _ _ (r .before .before .before .before .before .before .before .read-head .ensures) _ (sym (r .read-lone .ensures) ∙ g .got .given .1) _ (j .judge .ensures) _ _ _ _ (c .answer-with .ensures)
+    offers-read _ _ _ _ _ _ (r .before .before .before .before .before .read-head .ensures) _ (sym (r .read-lone .ensures) ∙ g .got .given .1) _ (j .judge .ensures) _ _ _ (c .answer-with .ensures)
 
 returns-2 : tie.Need-returns-2
 returns-2 c =
     let g = c .before in
     let r = g .before .before in
-    let h = r .before .before .before .before .before .before .before in
+    let h = r .before .before .before .before .before in
     let s = h .before .before .before .before in
-    let l : length (s .args .head .now) ≡ 4 = read-head-requires (h .before) (s .κs .0, tt) in
-    let m : length (s .args .mourned .now) ≡ 2 = read-set-requires (r .before .before .before .before) (s .κs .0, tt) in
-    offers-unread _ _ _ _ _ _ _ (h .read-head .ensures) _ (sym (r .read-lone .ensures) ∙ g .got2 .given .1) l m
+    let l : length (s .args .head .now) ≡ 9 = read-head-requires (h .before) (s .κs .0, tt) in
+    offers-unread _ _ _ _ _ _ (h .read-head .ensures) _ (sym (r .read-lone .ensures) ∙ g .got2 .given .1) l
 
 pub gm-offer-spec : {M : Type 1} → statement M
 gm-offer-spec =
     tie.close
     (tie.spec
     read-head-requires
-    read-set-requires
     read-lone-requires
     enum-known-got
     judge-requires

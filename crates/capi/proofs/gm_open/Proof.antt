@@ -13,26 +13,22 @@ enum-told c = search needs
 write-head-requires : tie.Need-write-head-requires
 write-head-requires c κs = search needs
 
-put-set-requires : tie.Need-put-set-requires
-put-set-requires c κs = search needs
-
 enum-known-answer : tie.Need-enum-known-answer
 enum-known-answer c = search needs
 
 returns : tie.Need-returns
 returns c =
-    let w = c .before .before in
-    let t = w .before .before in
-    let o = t .before .before .before .before .before .before .before .before in
-    opens-done _ _ _ _ _ _ _ _ (o .open .ensures) (t .enum-told .given .1) _ _ (w .write-head .ensures) (c .put-set .ensures)
+    let t = c .before .before in
+    let o = t .before .before .before .before .before .before .before .before .before .before in
+    opens-done _ _ _ _ _ _ (o .open .ensures) (t .enum-told .given .1) _ (c .write-head .ensures)
 
 returns-2 : tie.Need-returns-2
 returns-2 c =
     let a = c .before in
-    let o = a .before .before .before .before .before .before .before .before in
-    opens-refused _ _ _ _ _ _ _ _ (o .open .ensures) _ (a .answer .given .1)
+    let o = a .before .before .before .before .before .before .before .before .before .before in
+    opens-refused _ _ _ _ _ _ (o .open .ensures) _ (a .answer .given .1)
 
 pub gm-open-spec : {M : Type 1} → statement M
 gm-open-spec =
     tie.close
-    (tie.spec open-requires enum-told write-head-requires put-set-requires enum-known-answer returns returns-2)
+    (tie.spec open-requires enum-told write-head-requires enum-known-answer returns returns-2)

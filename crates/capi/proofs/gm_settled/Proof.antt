@@ -8,9 +8,6 @@ use Rattle.capi.proofs.gm_settled.Tie as tie
 read-head-requires : tie.Need-read-head-requires
 read-head-requires c κs = search needs
 
-read-set-requires : tie.Need-read-set-requires
-read-set-requires c κs = search needs
-
 settled-requires : tie.Need-settled-requires
 settled-requires c κs = search needs
 
@@ -19,10 +16,10 @@ yes-code-requires c κs = search needs
 
 returns : tie.Need-returns
 returns c = λ serials seconds.
-    let m = c .before .before in
-    let h = m .before .before .before in
-    c .yes-code .ensures ∙ settled-is _ _ _ _ (h .read-head .ensures) (m .read-set .ensures) _ _ _ _ (c .before .settled .ensures)
+    let s = c .before in
+    let h = s .before .before .before .before .before in
+    c .yes-code .ensures ∙ settled-is _ _ (h .read-head .ensures) _ _ _ _ (s .settled .ensures)
 
 pub gm-settled-spec : {M : Type 1} → statement M
 gm-settled-spec =
-    tie.close (tie.spec read-head-requires read-set-requires settled-requires yes-code-requires returns)
+    tie.close (tie.spec read-head-requires settled-requires yes-code-requires returns)

@@ -7,9 +7,6 @@ use Rattle.capi.proofs.gm_show.Tie as tie
 read-head-requires : tie.Need-read-head-requires
 read-head-requires c κs = search needs
 
-read-set-requires : tie.Need-read-set-requires
-read-set-requires c κs = search needs
-
 show-requires : tie.Need-show-requires
 show-requires c κs = search needs
 
@@ -25,15 +22,14 @@ same-length-2 c = search needs
 returns : tie.Need-returns
 returns c =
     let w = c .before .before .before .before .before in
-    let m = w .before .before .before in
-    let h = m .before .before .before in
-    shows-are _ _ _ _ (h .read-head .ensures) (m .read-set .ensures) _ _ _ _ _ _ _ _ (c .showing-code .ensures) (w .show .ensures)
+    let h = w .before .before .before .before .before .before .before in
+    shows-are _ _ (h .read-head .ensures) _ _ _ _ _ _ _ _ (c .showing-code .ensures) (w .show .ensures)
 
 pub gm-show-spec : {M : Type 1} → statement M
 gm-show-spec =
     tie.close
     (tie.spec
-    read-head-requires read-set-requires
+    read-head-requires
     show-requires
     showing-code-requires
     same-length

@@ -9,9 +9,6 @@ use Rattle.capi.proofs.gm_unmourned.Tie as tie
 read-head-requires : tie.Need-read-head-requires
 read-head-requires c κs = search needs
 
-read-set-requires : tie.Need-read-set-requires
-read-set-requires c κs = search needs
-
 unmourned-requires : tie.Need-unmourned-requires
 unmourned-requires c κs = search needs
 
@@ -21,8 +18,8 @@ put-set-requires c κs = search needs
 returns : tie.Need-returns
 returns c = λ serials seconds rows.
     let u = c .before .before in
-    c .put-set .ensures ∙ unmourned-is _ _ _ _ (u .before .before .before .read-head .ensures) (u .before .read-set .ensures) _ _ _ _ (u .unmourned .ensures) (omega arith)
+    c .put-set .ensures ∙ unmourned-is _ _ (u .before .read-head .ensures) _ _ _ _ (u .unmourned .ensures) (omega arith)
 
 pub gm-unmourned-spec : {M : Type 1} → statement M
 gm-unmourned-spec =
-    tie.close (tie.spec read-head-requires read-set-requires unmourned-requires put-set-requires returns)
+    tie.close (tie.spec read-head-requires unmourned-requires put-set-requires returns)

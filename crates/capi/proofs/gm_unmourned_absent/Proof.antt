@@ -9,9 +9,6 @@ use Rattle.capi.proofs.gm_unmourned_absent.Tie as tie
 read-head-requires : tie.Need-read-head-requires
 read-head-requires c κs = search needs
 
-read-set-requires : tie.Need-read-set-requires
-read-set-requires c κs = search needs
-
 unmourned-requires : tie.Need-unmourned-requires
 unmourned-requires c κs = search needs
 
@@ -25,9 +22,9 @@ returns : tie.Need-returns
 returns c = λ serials seconds rows.
     let d = c .before .before in
     let u = d .before in
-    c .put-set .ensures ∙ absent-is _ _ _ _ (u .before .before .before .before .read-head .ensures) (u .before .read-set .ensures) _ _ _ _ (u .unmourned .ensures) _ (omega (arith, d .difference .ok)) (d .difference .ensures)
+    c .put-set .ensures ∙ absent-is _ _ (u .before .before .read-head .ensures) _ _ _ _ (u .unmourned .ensures) _ (omega (arith, d .difference .ok)) (d .difference .ensures)
 
 pub gm-unmourned-absent-spec : {M : Type 1} → statement M
 gm-unmourned-absent-spec =
     tie.close
-    (tie.spec read-head-requires read-set-requires unmourned-requires difference-requires put-set-requires returns)
+    (tie.spec read-head-requires unmourned-requires difference-requires put-set-requires returns)

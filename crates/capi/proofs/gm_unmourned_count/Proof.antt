@@ -7,9 +7,6 @@ use Rattle.capi.proofs.gm_unmourned_count.Tie as tie
 read-head-requires : tie.Need-read-head-requires
 read-head-requires c κs = search needs
 
-read-set-requires : tie.Need-read-set-requires
-read-set-requires c κs = search needs
-
 unmourned-requires : tie.Need-unmourned-requires
 unmourned-requires c κs = search needs
 
@@ -19,8 +16,8 @@ count-requires c κs = search needs
 returns : tie.Need-returns
 returns c = λ serials seconds rows.
     let u = c .before in
-    count-is _ _ _ _ (u .before .before .before .read-head .ensures) (u .before .read-set .ensures) _ _ _ _ (u .unmourned .ensures) _ (c .count .ensures)
+    count-is _ _ (u .before .read-head .ensures) _ _ _ _ (u .unmourned .ensures) _ (c .count .ensures)
 
 pub gm-unmourned-count-spec : {M : Type 1} → statement M
 gm-unmourned-count-spec =
-    tie.close (tie.spec read-head-requires read-set-requires unmourned-requires count-requires returns)
+    tie.close (tie.spec read-head-requires unmourned-requires count-requires returns)

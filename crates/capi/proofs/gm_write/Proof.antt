@@ -17,7 +17,7 @@ same-length c = search needs
 returns : tie.Need-returns
 returns c =
     let w = c .before .before .before in
-    (λ mourned seconds. c .end-of .ensures ∙ ap endOf (w .write-back .ensures .0 mourned seconds), w .write-back .ensures .1)
+    (λ seconds. c .end-of .ensures ∙ ap endOf (w .write-back .ensures .0 seconds), w .write-back .ensures .1)
 
 pub gm-write-spec : {M : Type 1} → statement M
 gm-write-spec = tie.close (tie.spec write-back-requires end-of-requires same-length returns)

@@ -1,5 +1,5 @@
 -- `capi::kind_of` meets its contract. Assumes nothing.
-use Rattle.capi.proofs.Calls.{kind-short, kind-full}
+use Rattle.capi.proofs.Days.{kind-short, kind-full}
 use Rattle.capi.proofs.kind_of.Statement.{statement}
 use Rattle.capi.proofs.kind_of.Tie as tie
 

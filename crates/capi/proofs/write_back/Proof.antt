@@ -17,7 +17,7 @@ size-requires c κs = search needs
 returns : tie.Need-returns
 returns c =
     let s = c .before .before in
-    let h = s .before .before in
+    let h = s .before .before .before in
     back-12 _ _ (h .read-head .ensures) _ _ _ _ _ (omega (arith, s .size .ensures .0))
 
 contains-requires : tie.Need-contains-requires
@@ -27,16 +27,19 @@ returns-2 : tie.Need-returns-2
 returns-2 c =
     let b = c .before in
     let s = b .before .before .before in
-    let h = s .before .before in
+    let h = s .before .before .before in
     back-14 _ _ (h .read-head .ensures) _ _ _ _ _ (omega (arith, s .size .ensures .0)) (sym (b .contains .ensures) ∙ not-true _ (c .if2 .taken))
+
+kind-of-requires : tie.Need-kind-of-requires
+kind-of-requires c κs = search needs
 
 recorded-requires : tie.Need-recorded-requires
 recorded-requires c κs = search needs
 
 slice-aggregate-write : tie.Need-slice-aggregate-write
 slice-aggregate-write c =
-    let s = c .before .before .before .before .before .before in
-    sym (length-take-le _ _ (omega (arith, s .size .ensures .1, s .before .before .before .before .before .before .pre)))
+    let s = c .before .before .before .before .before .before .before in
+    sym (length-take-le _ _ (omega (arith, s .size .ensures .1, s .before .before .before .before .before .before .before .pre)))
 
 write-requires : tie.Need-write-requires
 write-requires c κs = search needs
@@ -48,11 +51,12 @@ returns-3 : tie.Need-returns-3
 returns-3 c =
     let w = c .before .before in
     let r = w .before .before .before in
-    let t = r .before in
+    let k = r .before in
+    let t = k .before in
     let b = t .before in
     let s = b .before .before .before in
-    let h = s .before .before in
-    back-written _ _ (h .read-head .ensures) _ _ _ _ _ (omega (arith, s .size .ensures .0)) (sym (b .contains .ensures) ∙ not-false _ (t .if2 .left)) _ (s .size .ensures .0) (slice-aggregate-write (w .before .before)) _ (r .recorded .ensures) _ _ (w .write .ensures)
+    let h = s .before .before .before in
+    back-written _ _ (h .read-head .ensures) _ _ _ _ _ (omega (arith, s .size .ensures .0)) (sym (b .contains .ensures) ∙ not-false _ (t .if2 .left)) _ (s .size .ensures .0) (slice-aggregate-write (w .before .before)) _ (r .recorded .ensures) _ (k .kind-of .ensures) _ _ (w .write .ensures)
 
 pub write-back-spec : {M : Type 1} → statement M
 write-back-spec =
@@ -63,7 +67,7 @@ write-back-spec =
     returns
     contains-requires
     returns-2
-    recorded-requires
+    kind-of-requires recorded-requires
     slice-aggregate-write
     write-requires
     same-length

@@ -1,18 +1,20 @@
--- `checks::all_recorded` meets its contract: what is left decides. Assumes nothing.
-use mathlib.Core.Path.{refl, sym, _∙_}
+-- `checks::all_recorded` meets its contract: the rows that are not left are the recorded ones. Assumes nothing.
+use mathlib.Core.Path.{_≡_, sym, _∙_}
+use mathlib.Core.Bool.{true}
 use native.Mathlib.Omega.{arith}
 use borrow.Author.Tests.{not-true, not-false}
 use borrow.Author.Needs.{needs}
 use Rattle.places.specs.Sets.{same, count}
 use Rattle.places.specs.PlaceSets.{has}
+use Rattle.places.proofs.Booleans.{clash}
 use Rattle.places.proofs.Laws.{lowest-found, lowest-nothing, without-count}
 use Rattle.rows.specs.Rows.{rowsOf, historyIn}
-use Rattle.checks.proofs.Laws.{Left, cut-on, left-start, left-next, left-end, left-not}
+use Rattle.checks.proofs.Laws.{Turns, cut-on, turns-next, each-holds, each-fails}
 use Rattle.checks.proofs.all_recorded.Statement.{statement}
 use Rattle.checks.proofs.all_recorded.Tie as tie
 
 abbrev Inv-loop : tie.InvT-loop
-Inv-loop history rows n left₀ left = Left n (λ p. same n (historyIn n history p) (rowsOf rows p)) (has left₀) left
+Inv-loop history rows n left₀ left = Turns n (has left₀) (λ p. same n (historyIn n history p) (rowsOf rows p) ≡ true) left
 
 abbrev μ-loop : tie.MeasureT-loop
 μ-loop history rows n left₀ left = count 128 (has left)
@@ -24,7 +26,10 @@ intersection-requires : tie.Need-intersection-requires Inv-loop μ-loop
 intersection-requires c κs = search needs
 
 loop-holds : tie.Need-loop-holds Inv-loop μ-loop
-loop-holds c = record { on = cut-on _ _ _ _ (omega arith) (c .before .below .ensures) (c .intersection .ensures); decides = refl }
+loop-holds c = record {
+  on = λ m h. (cut-on _ _ _ _ (omega arith) (c .before .below .ensures) (c .intersection .ensures) m h, h);
+  done = λ m l a h. clash a h;
+}
 
 lowest-requires : tie.Need-lowest-requires Inv-loop μ-loop
 lowest-requires c κs = search needs
@@ -38,22 +43,22 @@ enum-told c = search needs
 returns : tie.Need-returns Inv-loop μ-loop
 returns c =
     let at = c .before .before .before in
-    let start = left-start _ _ _ _ _ _ (omega arith) refl (at .before .before .below .ensures) (at .before .intersection .ensures) in
-    left-end _ _ _ _ (at .loop .inv) (omega arith) (lowest-nothing 128 _ (sym (c .before .before .lowest .ensures) ∙ c .enum-told .given .1)) ∙ start .decides
+    let none = lowest-nothing 128 _ (sym (c .before .before .lowest .ensures) ∙ c .enum-told .given .1) in
+    each-holds _ _ _ _ _ _ (omega arith) (at .before .before .below .ensures) (at .before .intersection .ensures) (at .loop .inv) none
 
 row-recorded-requires : tie.Need-row-recorded-requires Inv-loop μ-loop
 row-recorded-requires c κs =
     let met = c .before in
     let low = lowest-found 128 _ _ (sym (met .before .before .lowest .ensures) ∙ met .found .given .1) in
-    (omega arith, met .before .before .before .loop .inv .on _ (low .0))
+    (omega arith, met .before .before .before .loop .inv .on _ (low .0) .0)
 
 returns-2 : tie.Need-returns-2 Inv-loop μ-loop
 returns-2 c =
     let met = c .before .before .before in
     let at = met .before .before .before in
-    let start = left-start _ _ _ _ _ _ (omega arith) refl (at .before .before .below .ensures) (at .before .intersection .ensures) in
     let low = lowest-found 128 _ _ (sym (met .before .before .lowest .ensures) ∙ met .found .given .1) in
-    left-not _ _ _ _ (at .loop .inv) _ (low .0) (sym (c .before .row-recorded .ensures) ∙ not-true _ (c .if1 .taken)) ∙ start .decides
+    each-fails _ _ _ _ _ _ (omega arith) (at .before .before .below .ensures) (at .before .intersection .ensures) (at .loop .inv) _ (low .0)
+    (sym (c .before .row-recorded .ensures) ∙ not-true _ (c .if1 .taken))
 
 without-requires : tie.Need-without-requires Inv-loop μ-loop
 without-requires c κs = search needs
@@ -67,7 +72,7 @@ loop-less c =
 loop-again : tie.Need-loop-again Inv-loop μ-loop
 loop-again c =
     let passed = sym (c .before .before .row-recorded .ensures) ∙ not-false _ (c .before .if1 .left) in
-    left-next _ _ _ _ (c .before .before .before .before .before .before .before .loop .inv) _ _ passed (c .without .ensures)
+    turns-next _ _ _ _ (c .before .before .before .before .before .before .before .loop .inv) _ _ passed (c .without .ensures)
 
 pub all-recorded-spec : {M : Type 1} → statement M
 all-recorded-spec =

@@ -8,16 +8,17 @@ use Rattle.places.specs.Sets.{count}
 use Rattle.places.specs.PlaceSets.{has}
 use Rattle.places.proofs.Laws.{lowest-found, lowest-nothing}
 use Rattle.rows.specs.Rows.{historyIn}
-use Rattle.checks.proofs.Laws.{subset-is}
-use Rattle.checks.proofs.Closed.{Covering, covering-starts, covering-fails, covering-less, covering-goes, covering-ends}
+use Rattle.checks.specs.Checks.{Covered}
+use Rattle.checks.proofs.Laws.{Turns, turns-start, turns-end, subset-is}
+use Rattle.checks.proofs.Closed.{row-open, row-less, row-goes}
 use Rattle.checks.proofs.row_closed.Statement.{statement}
 use Rattle.checks.proofs.row_closed.Tie as tie
 
 abbrev Inv-loop : tie.InvT-loop
-Inv-loop history n p roster row left₀ left = Covering n (historyIn n history) p left
+Inv-loop history due n p roster row left₀ left = Turns n (historyIn n history p) (λ m. Covered n (historyIn n history) (has due) p m) left
 
 abbrev μ-loop : tie.MeasureT-loop
-μ-loop history n p roster row left₀ left = count 128 (has left)
+μ-loop history due n p roster row left₀ left = count 128 (has left)
 
 below-requires : tie.Need-below-requires Inv-loop μ-loop
 below-requires c κs = search needs
@@ -31,7 +32,7 @@ intersection-requires c κs = search needs
 loop-holds : tie.Need-loop-holds Inv-loop μ-loop
 loop-holds c =
     let n = c .before .before .before .before .args .n in
-    covering-starts _ _ _ _ _ _ (omega arith) (c .before .lent-row .ensures n (omega arith)) (c .before .before .below .ensures) (c .intersection .ensures)
+    turns-start _ _ _ _ _ _ (omega arith) (c .before .lent-row .ensures n (omega arith)) (c .before .before .below .ensures) (c .intersection .ensures)
 
 lowest-requires : tie.Need-lowest-requires Inv-loop μ-loop
 lowest-requires c κs = search needs
@@ -44,7 +45,7 @@ enum-told c = search needs
 
 returns : tie.Need-returns Inv-loop μ-loop
 returns c = (
-  λ e. covering-ends _ _ _ _ (omega arith) (c .before .before .before .loop .inv) (lowest-nothing 128 _ (sym (c .before .before .lowest .ensures) ∙ c .enum-told .given .1)),
+  λ e. turns-end _ _ _ _ (c .before .before .before .loop .inv) (omega arith) (lowest-nothing 128 _ (sym (c .before .before .lowest .ensures) ∙ c .enum-told .given .1)),
   λ e. absurd (true≢false e),
 )
 
@@ -67,7 +68,10 @@ returns-2 c =
     let row = at .before .before .lent-row .ensures n (omega arith) in
     let other = test .before .before .lent-row2 .ensures n (at .loop .inv .on _ low .0) in
     let held = subset-is _ (omega arith) _ _ _ (at .before .before .before .below .ensures) _ _ _ _ _ other row refl (test .before .intersection2 .ensures) (test .is-subset .ensures) in
-    (λ e. absurd (false≢true e), λ e. covering-fails _ _ _ _ (at .loop .inv) _ low (omega arith) (sym held ∙ not-true _ (c .if1 .taken)))
+    (λ e. absurd (false≢true e), λ e. row-open _ _ _ _ _ (at .loop .inv) _ low (sym held ∙ not-true _ (c .if1 .taken)))
+
+spared-by-requires : tie.Need-spared-by-requires Inv-loop μ-loop
+spared-by-requires c κs = search needs
 
 difference-requires : tie.Need-difference-requires Inv-loop μ-loop
 difference-requires c κs = search needs
@@ -77,13 +81,13 @@ without-requires c κs = search needs
 
 loop-less : tie.Need-loop-less Inv-loop μ-loop
 loop-less c =
-    let met = c .before .before .before .before .before .before .before in
+    let met = c .before .before .before .before .before .before .before .before in
     let low = lowest-found 128 _ _ (sym (met .before .before .lowest .ensures) ∙ met .found .given .1) .0 in
-    covering-less _ _ _ _ (met .before .before .before .loop .inv) _ low _ _ _ (c .before .difference .ensures) (c .without .ensures)
+    row-less _ _ _ _ _ (met .before .before .before .loop .inv) _ low _ _ _ (c .before .difference .ensures) (c .without .ensures)
 
 loop-again : tie.Need-loop-again Inv-loop μ-loop
 loop-again c =
-    let test = c .before .before .before in
+    let test = c .before .before .before .before in
     let met = test .before .before .before .before in
     let at = met .before .before .before in
     let start = at .before .before .before .before .before in
@@ -92,8 +96,8 @@ loop-again c =
     let row = at .before .before .lent-row .ensures n (start .pre .1) in
     let other = test .before .before .lent-row2 .ensures n (at .loop .inv .on _ low .0) in
     let held = subset-is _ (start .pre .0) _ _ _ (at .before .before .before .below .ensures) _ _ _ _ _ other row refl (test .before .intersection2 .ensures) (test .is-subset .ensures) in
-    covering-goes _ _ _ _ (at .loop .inv) _ low _ _ _ (c .before .difference .ensures) (c .without .ensures) _ _ (start .pre .0) other (at .before .before .before .below .ensures)
-    (test .before .intersection2 .ensures) (sym held ∙ not-false _ (c .before .before .if1 .left))
+    row-goes _ _ _ _ _ (at .loop .inv) _ low _ _ _ (c .before .difference .ensures) (c .without .ensures) _ _ _ (start .pre .0) other (at .before .before .before .below .ensures)
+    (test .before .intersection2 .ensures) (c .before .before .spared-by .ensures) (sym held ∙ not-false _ (c .before .before .before .if1 .left))
 
 pub row-closed-spec : {M : Type 1} → statement M
 row-closed-spec =
@@ -113,6 +117,7 @@ row-closed-spec =
     intersection-requires-2
     is-subset-requires
     returns-2
+    spared-by-requires
     difference-requires
     without-requires
     loop-less

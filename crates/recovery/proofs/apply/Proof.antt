@@ -24,13 +24,13 @@ say-requires-2 : tie.Need-say-requires-2
 say-requires-2 c κs = search needs
 
 returns : tie.Need-returns
-returns c = answered-taken _ _ _ _ _ (c .before .enum-told .given .1) (c .keep .ensures)
+returns c = answered-taken _ _ _ _ _ _ (c .before .enum-told .given .1) (c .keep .ensures)
 
 returns-2 : tie.Need-returns-2
-returns-2 c = c .say .ensures ∙ answered-repeated _ _ _ _ (c .before .enum-told2 .given .1)
+returns-2 c = c .say .ensures ∙ answered-repeated _ _ _ _ _ (c .before .enum-told2 .given .1)
 
 returns-3 : tie.Need-returns-3
-returns-3 c = c .say2 .ensures ∙ answered-refused _ _ _ _ _ (c .before .before .answer .given .1)
+returns-3 c = c .say2 .ensures ∙ answered-refused _ _ _ _ _ _ (c .before .before .answer .given .1)
 
 pub apply-spec : {M : Type 1} → statement M
 apply-spec =

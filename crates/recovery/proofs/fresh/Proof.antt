@@ -1,9 +1,9 @@
 -- `recovery::fresh` meets its contract. Assumes nothing.
 use mathlib.Core.Path.{_∙_}
 use native.Mathlib.Omega.{arith}
-use borrow.Author.Needs.{needs}
 use Rattle.rosters.proofs.Pads.{padded-few}
 use Rattle.recovery.proofs.Gives.{fresh-is}
+use borrow.Author.Needs.{needs}
 use Rattle.recovery.proofs.fresh.Statement.{statement}
 use Rattle.recovery.proofs.fresh.Tie as tie
 
@@ -17,7 +17,7 @@ none-requires : tie.Need-none-requires
 none-requires c κs = search needs
 
 returns : tie.Need-returns
-returns c = fresh-is _ _ _ _ _ (c .before .before .padded .ensures ∙ padded-few _ (search needs)) (omega arith) (c .before .empty .ensures) (c .none .ensures)
+returns c = fresh-is _ _ _ _ (c .before .before .padded .ensures ∙ padded-few _ (search needs)) (omega arith) (c .before .empty .ensures) (c .none .ensures)
 
 pub fresh-spec : {M : Type 1} → statement M
 fresh-spec = tie.close (tie.spec padded-requires empty-requires none-requires returns)

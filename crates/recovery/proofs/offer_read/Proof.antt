@@ -12,7 +12,7 @@ apply-requires : tie.Need-apply-requires
 apply-requires c κs = search needs
 
 returns : tie.Need-returns
-returns c = c .apply .ensures ∙ ap (answered _ _ _) (c .before .before .before .judge .ensures)
+returns c = c .apply .ensures ∙ ap (answered _ _ _ _) (c .before .before .before .judge .ensures)
 
 pub offer-read-spec : {M : Type 1} → statement M
 offer-read-spec = tie.close (tie.spec judge-requires apply-requires returns)

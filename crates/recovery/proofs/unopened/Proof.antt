@@ -1,7 +1,7 @@
 -- `recovery::unopened` meets its contract. Assumes nothing.
 use native.Mathlib.Omega.{arith}
-use borrow.Author.Needs.{needs}
 use Rattle.recovery.proofs.Gives.{unopened-is}
+use borrow.Author.Needs.{needs}
 use Rattle.recovery.proofs.unopened.Statement.{statement}
 use Rattle.recovery.proofs.unopened.Tie as tie
 

@@ -16,19 +16,19 @@ contains-requires c κs = search needs
 
 again-requires : tie.Need-again-requires
 again-requires c κs =
-    back-at _ _ _ _ _ _ _ _ (c .before .before .before .below .ensures) (c .before .before .intersection .ensures) (c .before .contains .ensures) (c .if1 .taken)
+    back-at _ _ _ _ _ _ _ _ _ (c .before .before .before .below .ensures) (c .before .before .intersection .ensures) (c .before .contains .ensures) (c .if1 .taken)
 
 returns : tie.Need-returns
-returns c = c .again .ensures ∙ entering-back _ _ _ _ _ _ (back-at _ _ _ _ _ _ _ _ (c .before .before .before .before .below .ensures) (c .before .before .before .intersection .ensures) (c .before .before .contains .ensures) (c .before .if1 .taken))
+returns c = c .again .ensures ∙ entering-back _ _ _ _ _ _ _ (back-at _ _ _ _ _ _ _ _ _ (c .before .before .before .before .below .ensures) (c .before .before .before .intersection .ensures) (c .before .before .contains .ensures) (c .before .if1 .taken))
 
 accepts-requires : tie.Need-accepts-requires
 accepts-requires c κs = search needs
 
 returns-2 : tie.Need-returns-2
-returns-2 c = entering-new _ _ _ _ _ _ (back-at _ _ _ _ _ _ _ _ (c .before .before .before .before .before .below .ensures) (c .before .before .before .before .intersection .ensures) (c .before .before .before .contains .ensures) (c .before .before .if1 .left)) _ (sym (c .before .accepts .ensures) ∙ c .if2 .taken)
+returns-2 c = entering-new _ _ _ _ _ _ _ (back-at _ _ _ _ _ _ _ _ _ (c .before .before .before .before .before .below .ensures) (c .before .before .before .before .intersection .ensures) (c .before .before .before .contains .ensures) (c .before .before .if1 .left)) _ (sym (c .before .accepts .ensures) ∙ c .if2 .taken)
 
 returns-3 : tie.Need-returns-3
-returns-3 c = entering-new _ _ _ _ _ _ (back-at _ _ _ _ _ _ _ _ (c .before .before .before .before .before .below .ensures) (c .before .before .before .before .intersection .ensures) (c .before .before .before .contains .ensures) (c .before .before .if1 .left)) _ (sym (c .before .accepts .ensures) ∙ c .if2 .left)
+returns-3 c = entering-new _ _ _ _ _ _ _ (back-at _ _ _ _ _ _ _ _ _ (c .before .before .before .before .before .below .ensures) (c .before .before .before .before .intersection .ensures) (c .before .before .before .contains .ensures) (c .before .before .if1 .left)) _ (sym (c .before .accepts .ensures) ∙ c .if2 .left)
 
 pub enter-spec : {M : Type 1} → statement M
 enter-spec =

@@ -11,7 +11,7 @@ size-requires : tie.Need-size-requires
 size-requires c κs = search needs
 
 returns : tie.Need-returns
-returns c = show-12 _ _ _ _ _ _ _ _ (omega (arith, c .before .before .size .ensures .0))
+returns c = show-12 _ _ _ _ _ _ _ _ _ (omega (arith, c .before .before .size .ensures .0))
 
 contains-requires : tie.Need-contains-requires
 contains-requires c κs = search needs
@@ -19,7 +19,7 @@ contains-requires c κs = search needs
 returns-2 : tie.Need-returns-2
 returns-2 c =
     let s = c .before .before .before .before .size .ensures in
-    show-not-last _ _ _ _ _ _ _ _ (omega (arith, s .0)) (sym (c .before .contains .ensures) ∙ c .if2 .taken)
+    show-not-last _ _ _ _ _ _ _ _ _ (omega (arith, s .0)) (sym (c .before .contains .ensures) ∙ c .if2 .taken)
 
 blockers-requires : tie.Need-blockers-requires
 blockers-requires c κs = search needs
@@ -39,8 +39,8 @@ returns-3 c =
     let b = low .before in
     let d = b .before .before in
     let s = d .before .before .before .size .ensures in
-    show-last _ _ _ _ _ _ _ _ (omega (arith, s .0))
-    (blocker-none _ _ _ _ _ (size-at-most _) _ (b .blockers .ensures) _ (low .lowest .ensures) (c .enum-told .given .1) (sym (d .contains .ensures) ∙ b .before .if2 .left))
+    show-last _ _ _ _ _ _ _ _ _ (omega (arith, s .0))
+    (blocker-none _ _ _ _ (size-at-most _) _ (b .blockers .ensures) _ (low .lowest .ensures) (c .enum-told .given .1) _ (sym (d .contains .ensures) ∙ b .before .if2 .left))
 
 show-open-requires : tie.Need-show-open-requires
 show-open-requires c κs =
@@ -49,8 +49,8 @@ show-open-requires c κs =
     let b = low .before in
     let d = b .before .before in
     let s = d .before .before .before .size .ensures in
-    let at = blocker-at _ _ _ _ _ (size-at-most _) _ (b .blockers .ensures) _ (low .lowest .ensures) _ (f .found .given .1) in
-    let is = blocker-open _ _ _ _ _ (size-at-most _) _ (b .blockers .ensures) _ (low .lowest .ensures) _ (f .found .given .1) (sym (d .contains .ensures) ∙ b .before .if2 .left) in
+    let at = blocker-at _ _ _ _ (size-at-most _) _ (b .blockers .ensures) _ (low .lowest .ensures) _ (f .found .given .1) in
+    let is = blocker-open _ _ _ _ (size-at-most _) _ (b .blockers .ensures) _ (low .lowest .ensures) _ (f .found .given .1) _ (sym (d .contains .ensures) ∙ b .before .if2 .left) in
     ((omega (arith, s .0), is), at)
 
 same-length : tie.Need-same-length

@@ -2,7 +2,7 @@
 use mathlib.Core.Logic.{inl, inr}
 use native.Mathlib.Omega.{arith}
 use borrow.Author.Needs.{needs}
-use Rattle.shows.proofs.Laws.{blocker-small, show-13, show-both}
+use Rattle.shows.proofs.Laws.{blocker-small, heard-row, show-13, show-both}
 use Rattle.shows.proofs.show_open.Statement.{statement}
 use Rattle.shows.proofs.show_open.Tie as tie
 
@@ -16,7 +16,7 @@ returns : tie.Need-returns
 returns c =
     let s = c .before in
     let known = s .before .before .before .pre in
-    show-13 _ _ _ _ _ _ _ _ (known .0 .0) (known .0 .1) (inl (omega (arith, s .size .ensures .0)))
+    show-13 _ _ _ _ _ _ _ _ _ (known .0 .0) (known .0 .1) (inl (omega (arith, s .size .ensures .0)))
 
 mul-if2 : tie.Need-mul-if2
 mul-if2 c = search needs
@@ -25,7 +25,7 @@ returns-2 : tie.Need-returns-2
 returns-2 c =
     let s = c .before .before in
     let known = s .before .before .before .pre in
-    show-13 _ _ _ _ _ _ _ _ (known .0 .0) (known .0 .1) (inr (omega (arith, s .size .ensures .0)))
+    show-13 _ _ _ _ _ _ _ _ _ (known .0 .0) (known .0 .1) (inr (omega (arith, s .size .ensures .0)))
 
 heard-row-requires : tie.Need-heard-row-requires
 heard-row-requires c κs = search needs
@@ -56,7 +56,7 @@ returns-3 c =
     let room = row .before in
     let s = room .before .before in
     let known = s .before .before .before .pre in
-    show-both _ _ _ _ _ _ _ _ (known .0 .0) (known .0 .1) _ (s .size .ensures .0) (room .before .if1 .left) (room .if2 .left) _ _ _ _ _ (known .1) (row .heard-row .ensures)
+    show-both _ _ _ _ _ _ _ _ _ (known .0 .0) (known .0 .1) _ (s .size .ensures .0) (room .before .if1 .left) (room .if2 .left) _ _ _ _ _ (known .1) (heard-row _ _ _ _ _ _ (row .heard-row .ensures))
     (both .lay-both .ensures .0) (both .lay-both .ensures .1) (last .put .ensures)
 
 pub show-open-spec : {M : Type 1} → statement M

@@ -5,10 +5,10 @@ use Rattle.reckoning.proofs.families.all_piles.Statement.{statement}
 use Rattle.reckoning.proofs.families.all_piles.Tie as tie
 
 abbrev Inv-loop : tie.InvT-loop
-Inv-loop list kind n trial t₀ pile₀ t pile = pile ≤ 83521
+Inv-loop list n trial t₀ pile₀ t pile = pile ≤ 1185921
 
 abbrev μ-loop : tie.MeasureT-loop
-μ-loop list kind n trial t₀ pile₀ t pile = 83521 - pile
+μ-loop list n trial t₀ pile₀ t pile = 1185921 - pile
 
 loop-holds : tie.Need-loop-holds Inv-loop μ-loop
 loop-holds c = search needs

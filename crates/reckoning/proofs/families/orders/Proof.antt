@@ -5,10 +5,10 @@ use Rattle.reckoning.proofs.families.orders.Statement.{statement}
 use Rattle.reckoning.proofs.families.orders.Tie as tie
 
 abbrev Inv-loop : tie.InvT-loop
-Inv-loop list kind n pile alike t₀ order₀ t order = order ≤ 24
+Inv-loop list n pile alike t₀ order₀ t order = order ≤ 24
 
 abbrev μ-loop : tie.MeasureT-loop
-μ-loop list kind n pile alike t₀ order₀ t order = 24 - order
+μ-loop list n pile alike t₀ order₀ t order = 24 - order
 
 loop-holds : tie.Need-loop-holds Inv-loop μ-loop
 loop-holds c = search needs

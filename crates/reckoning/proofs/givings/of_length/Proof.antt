@@ -5,10 +5,10 @@ use Rattle.reckoning.proofs.givings.of_length.Statement.{statement}
 use Rattle.reckoning.proofs.givings.of_length.Tie as tie
 
 abbrev Inv-loop : tie.InvT-loop
-Inv-loop kind n t₀ list₀ t list = list ≤ 3375
+Inv-loop n t₀ list₀ t list = list ≤ 3375
 
 abbrev μ-loop : tie.MeasureT-loop
-μ-loop kind n t₀ list₀ t list = 3375 - list
+μ-loop n t₀ list₀ t list = 3375 - list
 
 loop-holds : tie.Need-loop-holds Inv-loop μ-loop
 loop-holds c = search needs

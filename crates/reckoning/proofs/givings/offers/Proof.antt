@@ -5,10 +5,10 @@ use Rattle.reckoning.proofs.givings.offers.Statement.{statement}
 use Rattle.reckoning.proofs.givings.offers.Tie as tie
 
 abbrev Inv-loop : tie.InvT-loop
-Inv-loop c r b t₀ k₀ t k = k ≤ 1548
+Inv-loop c r b t₀ k₀ t k = k ≤ 3096
 
 abbrev μ-loop : tie.MeasureT-loop
-μ-loop c r b t₀ k₀ t k = 1548 - k
+μ-loop c r b t₀ k₀ t k = 3096 - k
 
 loop-holds : tie.Need-loop-holds Inv-loop μ-loop
 loop-holds c = search needs

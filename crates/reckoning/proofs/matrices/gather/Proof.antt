@@ -5,13 +5,16 @@ use Rattle.reckoning.proofs.matrices.gather.Statement.{statement}
 use Rattle.reckoning.proofs.matrices.gather.Tie as tie
 
 abbrev Inv-loop : tie.InvT-loop
-Inv-loop kind n out₀ count₀ m₀ out count m = (m ≤ 65536) × (count ≤ m)
+Inv-loop n out₀ count₀ m₀ out count m = (m ≤ 65536) × (count ≤ m)
 
 abbrev μ-loop : tie.MeasureT-loop
-μ-loop kind n out₀ count₀ m₀ out count m = 65536 - m
+μ-loop n out₀ count₀ m₀ out count m = 65536 - m
 
 loop-holds : tie.Need-loop-holds Inv-loop μ-loop
 loop-holds c = search needs
+
+listed-requires : tie.Need-listed-requires Inv-loop μ-loop
+listed-requires c κs = search needs
 
 put-requires : tie.Need-put-requires Inv-loop μ-loop
 put-requires c κs = search needs
@@ -44,6 +47,7 @@ gather-spec =
     Inv-loop
     μ-loop
     loop-holds
+    listed-requires
     put-requires
     is-history-requires
     one-if-requires

@@ -5,10 +5,10 @@ use Rattle.reckoning.proofs.seconds.records.Statement.{statement}
 use Rattle.reckoning.proofs.seconds.records.Tie as tie
 
 abbrev Inv-loop : tie.InvT-loop
-Inv-loop list c r pile t₀ k₀ t k = k ≤ 512
+Inv-loop list c r pile t₀ k₀ t k = k ≤ 1024
 
 abbrev μ-loop : tie.MeasureT-loop
-μ-loop list c r pile t₀ k₀ t k = 512 - k
+μ-loop list c r pile t₀ k₀ t k = 1024 - k
 
 loop-holds : tie.Need-loop-holds Inv-loop μ-loop
 loop-holds c = search needs

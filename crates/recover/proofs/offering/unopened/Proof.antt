@@ -1,5 +1,6 @@
 -- `offering::unopened` meets its contract. Assumes nothing.
 use borrow.Author.Needs.{needs}
+use mathlib.Core.Path.{refl}
 use Rattle.recover.proofs.Readings.{unopened-is}
 use Rattle.recover.proofs.offering.unopened.Statement.{statement}
 use Rattle.recover.proofs.offering.unopened.Tie as tie
@@ -11,7 +12,7 @@ open-requires : tie.Need-open-requires
 open-requires c κs = search needs
 
 returns : tie.Need-returns
-returns c = unopened-is _ _ (c .before .«open» .ensures)
+returns c = unopened-is _ _ refl (c .before .«open» .ensures)
 
 pub unopened-spec : {M : Type 1} → statement M
 unopened-spec = tie.close (tie.spec slice-aggregate-open open-requires returns)

@@ -1,0 +1,25 @@
+-- `answers::narrowed` meets its contract. Assumes nothing.
+use mathlib.Core.Path.{sym, _∙_}
+use Rattle.answers.proofs.Answers.{narrowed-full, narrowed-other}
+use borrow.Author.Needs.{needs}
+use Rattle.answers.proofs.narrowed.Statement.{statement}
+use Rattle.answers.proofs.narrowed.Tie as tie
+
+full-back-requires : tie.Need-full-back-requires
+full-back-requires c κs = search needs
+
+returns : tie.Need-returns
+returns c = narrowed-full _ _ _ (sym (c .before .full-back .ensures) ∙ c .if1 .taken)
+
+before-requires : tie.Need-before-requires
+before-requires c κs = search needs
+
+difference-requires : tie.Need-difference-requires
+difference-requires c κs = search needs
+
+returns-2 : tie.Need-returns-2
+returns-2 c = narrowed-other _ _ _ _ _ (sym (c .before .before .before .full-back .ensures) ∙ c .before .before .if1 .left) (c .before .before2 .ensures) (c .difference .ensures)
+
+pub narrowed-spec : {M : Type 1} → statement M
+narrowed-spec =
+    tie.close (tie.spec full-back-requires returns before-requires difference-requires returns-2)
