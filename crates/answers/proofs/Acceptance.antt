@@ -20,7 +20,7 @@ use Rattle.histories.specs.Histories.{Row, History, Before, heard, through, Acc
 use Rattle.histories.specs.Rule.{recorded, reach, before, isFull, fullBack, agrees, accepts}
 use Rattle.histories.proofs.Closure.{reach-heard, reach-mono, reach-trans, reach-sound}
 use Rattle.answers.specs.Views.{size, kindIn, acceptedIn, recordedIn, reachFrom}
-use Rattle.answers.proofs.Views.{size-at-most, On, cut-below, cut-same, accepted-on, recorded-parts}
+use Rattle.answers.proofs.Views.{size-at-most, full-in, On, cut-below, cut-same, accepted-on, recorded-parts}
 use Rattle.answers.proofs.Walks.{reach-here, reach-next}
 
 -- ---- the rows of returned full places
@@ -51,12 +51,8 @@ module _ (count : ℕ) (w : List ℕ) (roster s u back first E N : PlaceSet) (p 
   n = size count
 
   full-is : (m : ℕ) → fullBack A m ≡ has first m
-  unfolding fullBack acceptedIn kindIn isFull
-  full-is m = ap₂ (λ (x y : Bool). x && y) (sym (ap (λ (S : Places). S m) (eb ∙ ap (λ (S : Places). intersection S (has s)) ea))) (go (has u m)) ∙ sym (ap (λ (S : Places). S m) ef)
-    where
-      go : (b : Bool) → isFull (cond b Full Short) ≡ b
-      go true = refl
-      go false = refl
+  unfolding fullBack acceptedIn
+  full-is m = ap₂ (λ (x y : Bool). x && y) (sym (ap (λ (S : Places). S m) (eb ∙ ap (λ (S : Places). intersection S (has s)) ea))) (full-in (has u) m) ∙ sym (ap (λ (S : Places). S m) ef)
 
   agrees-full : (m : ℕ) → has first m ≡ true → agrees n A p (has E) m ≡ agreeing (intersection (has roster) (rowsOf w m)) p N
   unfolding agrees recorded fullBack acceptedIn

@@ -13,12 +13,12 @@ use Rattle.places.proofs.Booleans.{clash, is-false, both-ways, and-left, not-tr
 use Rattle.places.proofs.Tests.{any-elim, any-intro, any-none, none-any}
 use Rattle.places.proofs.Laws.{has-below}
 use Rattle.histories.specs.Histories.{Row, Accepted}
-use Rattle.histories.specs.Rule.{recorded, reach, before, isFull, fullBack, answerWith, openAnswer, noneOpen}
+use Rattle.histories.specs.Rule.{recorded, reach, before, fullBack, answerWith, openAnswer, noneOpen}
 use Rattle.histories.specs.Kept.{ruledOutBy, blockersBy, answerBy, settledBy}
 use Rattle.histories.specs.declared.Kind.the-variants.{Full, Short}
 use Rattle.answers.specs.declared.Answer.the-variants.{Last, NotLast, Open}
 use Rattle.answers.specs.Views.{size, kindIn, acceptedIn, recordedIn, answerOf}
-use Rattle.answers.proofs.Views.{size-at-most}
+use Rattle.answers.proofs.Views.{size-at-most, full-in}
 
 -- ---- no member
 
@@ -70,12 +70,8 @@ module _ (count : ℕ) (R U : Places) (w : List ℕ) (F : Row) (i : ℕ) (rest :
     (e : has rest ≡ difference (difference (difference (below (size count)) (only i)) (intersection (below (size count)) R)) F) where
   -- full and back, as it is kept
   full-is : fullBack (acceptedIn count R U w) i ≡ (ltb i (size count) && R i) && U i
-  unfolding fullBack acceptedIn kindIn isFull
-  full-is = ap (λ (x : Bool). (ltb i (size count) && R i) && x) (go (U i))
-    where
-      go : (b : Bool) → isFull (cond b Full Short) ≡ b
-      go true = refl
-      go false = refl
+  unfolding fullBack acceptedIn
+  full-is = ap (λ (x : Bool). (ltb i (size count) && R i) && x) (full-in U i)
 
   pub blockers-are : (r : PlaceSet) → has r ≡ difference (has rest) (cond ((ltb i (size count) && R i) && U i) nothing (reach (size count) (recordedIn count R w) i))
       → has r ≡ blockersBy (size count) (acceptedIn count R U w) F i

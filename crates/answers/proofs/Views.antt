@@ -11,10 +11,10 @@ use Rattle.places.specs.PlaceSets.{has, kept}
 use Rattle.places.specs.declared.PlaceSet.{PlaceSet}
 use Rattle.places.proofs.Booleans.{and-intro, and-left, and-right}
 use Rattle.rows.specs.Rows.{rowsOf}
-use Rattle.histories.specs.declared.Kind.the-variants.{Short}
+use Rattle.histories.specs.declared.Kind.the-variants.{Full, Short}
 use Rattle.histories.specs.Histories.{Accepted}
-use Rattle.histories.specs.Rule.{recorded}
-use Rattle.answers.specs.Views.{size, acceptedIn, recordedIn}
+use Rattle.histories.specs.Rule.{recorded, isFull}
+use Rattle.answers.specs.Views.{size, kindIn, acceptedIn, recordedIn}
 
 -- ---- the roster
 
@@ -98,6 +98,17 @@ cut-below n all s N a e k h = ltb-true k n (sym (ap (λ (S : Places). S k) a) �
 
 pub cut-same : (n : ℕ) (all s N : PlaceSet) → has all ≡ below n → has N ≡ intersection (has all) (has s) → (k : ℕ) → k < n → has N k ≡ has s k
 cut-same n all s N a e k l = ap (λ (S : Places). S k) e ∙ ap (λ (x : Bool). x && has s k) (ap (λ (S : Places). S k) a ∙ lt-ltb k n l)
+
+-- ---- kinds
+
+-- a place is of the full kind where it is among the full ones
+pub full-in : (F : Places) (p : ℕ) → isFull (kindIn F p) ≡ F p
+unfolding kindIn isFull
+full-in F p = go (F p)
+  where
+    go : (b : Bool) → isFull (cond b Full Short) ≡ b
+    go true = refl
+    go false = refl
 
 -- ---- what is recorded
 

@@ -16,10 +16,10 @@ use Rattle.places.proofs.Booleans.{clash, split, is-false, both-ways, and-intro
 use Rattle.places.proofs.Tests.{any-elim, any-intro, all-elim, all-intro, subset-elim, subset-intro, same-elim, same-intro}
 use Rattle.rows.specs.Rows.{rowAt, rowsOf, rowIn, historyIn}
 use Rattle.rows.proofs.Laws.{has-row}
-use Rattle.histories.specs.declared.Kind.the-variants.{Full, Short}
 use Rattle.histories.specs.Histories.{History}
-use Rattle.histories.specs.Rule.{reach, isFull, fullBack, dutyMet, fitsTest}
-use Rattle.answers.specs.Views.{size, kindIn, acceptedIn}
+use Rattle.histories.specs.Rule.{reach, fullBack, dutyMet, fitsTest}
+use Rattle.answers.specs.Views.{size, acceptedIn}
+use Rattle.answers.proofs.Views.{full-in}
 use Rattle.checks.specs.Checks.{offRoster}
 
 -- ---- tests of the places below n
@@ -244,12 +244,8 @@ module _ (count : ℕ) (R F : Places) (w : List ℕ) (n : ℕ) (b : List ℕ) (s
   on-it S k l = rw (← size-is, lt-ltb k n l)
 
   duties-is : all n (dutyMet n (acceptedIn count R F w) lent) ≡ duties (intersection R F)
-  unfolding dutyMet fullBack isFull kindIn acceptedIn
-  duties-is = all-same n _ _ (λ p l. ap (λ (x : Bool). not x || subset n (reach n lent p) (lent p)) (ap₂ _&&_ (on-it R p l) (full (F p))))
-    where
-      full : (x : Bool) → isFull (cond x Full Short) ≡ x
-      full true = refl
-      full false = refl
+  unfolding dutyMet fullBack acceptedIn
+  duties-is = all-same n _ _ (λ p l. ap (λ (x : Bool). not x || subset n (reach n lent p) (lent p)) (ap₂ _&&_ (on-it R p l) (full-in F p)))
 
   compared-is : all n (λ p. not (acceptedIn count R F w .returned p) || same n (lent p) (acceptedIn count R F w .row p)) ≡ compared
   unfolding acceptedIn

@@ -338,6 +338,10 @@ all-open {G = G} a d = absurd (d .second-not (a G (d .second-fits)))
 pub none-open : {n : ℕ} {A : Accepted} {i : ℕ} {F G : History} {X : Type 0} → LastInNone n A i → Disagree n A i F G → X
 none-open {F = F} z d = absurd (z F (d .first-fits) (d .first-last))
 
+pub decided-open : {n : ℕ} {A : Accepted} {i : ℕ} {F G : History} {X : Type 0} → Decided n A i → Disagree n A i F G → X
+decided-open (inl a) d = all-open a d
+decided-open (inr z) d = none-open z d
+
 -- for each answer, when it is given
 pub record Exact (n : ℕ) (A : Accepted) (i : ℕ) : Type 0 where
   pub last-iff : (answer n A i ≡ is-last) ↔ LastInAll n A i

@@ -14,7 +14,7 @@ use Rattle.histories.specs.declared.Kind.{Kind}
 use Rattle.histories.specs.declared.Kind.the-variants.{Full}
 use Rattle.histories.specs.Histories.{Row, History, Before, Accepted, lay, Fits, LastInAll, LastInNone, Decided, Disagree}
 use Rattle.histories.proofs.Fewer.{Within, within-self, within-trans, within-lay, fits-lay}
-use Rattle.histories.proofs.Exact.{all-none, all-open, none-open}
+use Rattle.histories.proofs.Exact.{all-none, all-open, none-open, decided-open}
 use Rattle.records.specs.Layout.{Parsed, got, Stored}
 use Rattle.records.specs.Layout as L
 use Rattle.recovery.specs.declared.Recovery.{Recovery}
@@ -23,6 +23,7 @@ use Rattle.recovery.specs.Demand as D
 use Rattle.recovery.specs.Demand.{Ledger, Call, offer, ask, show, whole, Outcome, says, lent, OfGroup, Dictates, faulty, foreign, repeats, differs, takes, none-fits, asked-off, asked-last, asked-not, asked-open, showed-off, showed-decided, showed-short, showed, checked-short, checked-off, checked-fits, checked-not, whole-settled, whole-open, gave-unmourned, gave-absent, gave-count, found-first, found-second, found-none, gave-off, gave-zero, gave-known, gave, wrote-off, wrote-absent, wrote-short, wrote}
 use Rattle.recovery.specs.Run.{left}
 use Rattle.recovery.proofs.Demand.{Good, step, good-next}
+use Rattle.recovery.proofs.Single.{read-clash, same-record}
 
 -- ---- the accepted records stay, whatever is called
 
@@ -99,10 +100,6 @@ decided-elim (showed-decided l a) e = (l, a)
 decided-elim (showed-short l d s) e = let z : _≡_ {A = ℕ} 0 1 = cc in absurd (omega arith)
 decided-elim (showed l u v d x y) e = let z : _≡_ {A = ℕ} 0 1 = cc in absurd (omega arith)
 
-decided-open : {n : ℕ} {A : Accepted} {i : ℕ} {F G : History} {X : Type 0} → Decided n A i → Disagree n A i F G → X
-decided-open (inl a) d = all-open a d
-decided-open (inr a) d = none-open a d
-
 pub decided-intro : {roster : List ℕ} {A B : Ledger} {i : ℕ} {a b : List ℕ} {o : Outcome} → Dictates roster A (show i a b) o B → i < length roster
     → Decided (length roster) (A .accepted) i → o ≡ lent D.decided a b
 decided-intro (showed-off l) m w = absurd (omega arith)
@@ -116,12 +113,6 @@ settled-iff (whole-settled a) = (λ e. a, λ w. refl)
 settled-iff (whole-open {i = i} l d) = (λ e. let z : _≡_ {A = ℕ} 0 1 = cc in absurd (omega arith), λ w. decided-open (w i l) d)
 
 -- ---- what is said of a record
-
-read-clash : {X : Type 0} {p : Parsed Stored} {rest : List ℕ} {j : ℕ} {x : Stored} → p ≡ L.refused j → p ≡ got x rest → X
-read-clash e h = let z : _≡_ {A = ℕ} 0 1 = cc in absurd (omega arith)
-
-pub same-record : {p : Parsed Stored} {u v : List ℕ} {x y : Stored} → p ≡ got x u → p ≡ got y v → x ≡ y
-same-record e h = cc
 
 -- the bytes are a record of this group: its kind is its member's in K, its mourned set its member's row in H, and a full one holds
 -- everyone before it there

@@ -32,7 +32,8 @@ use Rattle.recovery.specs.Run.{offerSays, askedSays, showingSays, shownG
 use Rattle.recovery.specs.Run as run
 use Rattle.recovery.specs.Later.{Stays, offers, IsAccepted, Accepts, all, next}
 use Rattle.recovery.proofs.Demand.{Good, step, good-next, good-after, good-left}
-use Rattle.recovery.proofs.Dictated.{within-left, offers-none, grows, last-iff, not-last-iff, decided-elim, decided-intro, settled-iff, same-record, Agrees, Kinds, agrees-accepted, Enters, accepted-enters}
+use Rattle.recovery.proofs.Single.{same-record}
+use Rattle.recovery.proofs.Dictated.{within-left, offers-none, grows, last-iff, not-last-iff, decided-elim, decided-intro, settled-iff, Agrees, Kinds, agrees-accepted, Enters, accepted-enters}
 
 -- ---- lists of calls
 

@@ -10,7 +10,7 @@ use lib.ListN.{length, getD, take, drop, take-append-drop}
 use Rattle.places.specs.Sets.{count}
 use Rattle.places.proofs.Booleans.{clash, both-ways}
 use Rattle.histories.specs.Histories.{Row, History, Accepted, lay, Fits, Disagree, Decided}
-use Rattle.histories.proofs.Exact.{none-fitted, all-none, all-open, none-open}
+use Rattle.histories.proofs.Exact.{none-fitted, all-none, all-open, none-open, decided-open}
 use Rattle.rosters.specs.Rosters.{IsRoster}
 use Rattle.rosters.specs.Seconds.{countsAs, itself}
 use Rattle.records.specs.Layout.{Parsed, got, Stored, stored, lone, layout}
@@ -77,19 +77,15 @@ room : {X : Type 0} {m a b : ℕ} → (a < m) ⊎ (b < m) → m ≤ a → m ≤ 
 room (inl s) x y = absurd (omega arith)
 room (inr s) x y = absurd (omega arith)
 
-dec-open : {n : ℕ} {A : Accepted} {i : ℕ} {F G : History} {X : Type 0} → Decided n A i → Disagree n A i F G → X
-dec-open (inl a) d = all-open a d
-dec-open (inr z) d = none-open z d
-
 -- ---- the same bytes read twice
 
 same-fault : {p : Parsed Stored} {i j : ℕ} → p ≡ L.refused i → p ≡ L.refused j → i ≡ j
 same-fault e h = cc
 
-read-clash : {X : Type 0} {p : Parsed Stored} {rest : List ℕ} {j : ℕ} {x : Stored} → p ≡ L.refused j → p ≡ got x rest → X
+pub read-clash : {X : Type 0} {p : Parsed Stored} {rest : List ℕ} {j : ℕ} {x : Stored} → p ≡ L.refused j → p ≡ got x rest → X
 read-clash e h = let z : _≡_ {A = ℕ} 0 1 = cc in absurd (omega arith)
 
-same-record : {p : Parsed Stored} {u v : List ℕ} {x y : Stored} → p ≡ got x u → p ≡ got y v → x ≡ y
+pub same-record : {p : Parsed Stored} {u v : List ℕ} {x y : Stored} → p ≡ got x u → p ≡ got y v → x ≡ y
 same-record e h = cc
 
 module _ {roster seconds : List ℕ} {bytes : List ℕ} where
@@ -215,14 +211,14 @@ single f s (showed-off x₁) (showed-short x₂ d₂ s₂) c₁ c₂ = off x₁ 
 single f s (showed-off x₁) (showed x₂ u₂ v₂ d₂ y₂ k₂) c₁ c₂ = off x₁ x₂
 single f s (showed-decided x₁ w₁) (showed-off x₂) c₁ c₂ = off x₂ x₁
 single f s (showed-decided x₁ w₁) (showed-decided x₂ w₂) c₁ c₂ = (refl, refl)
-single f s (showed-decided x₁ w₁) (showed-short x₂ d₂ s₂) c₁ c₂ = dec-open w₁ d₂
-single f s (showed-decided x₁ w₁) (showed x₂ u₂ v₂ d₂ y₂ k₂) c₁ c₂ = dec-open w₁ d₂
+single f s (showed-decided x₁ w₁) (showed-short x₂ d₂ s₂) c₁ c₂ = decided-open w₁ d₂
+single f s (showed-decided x₁ w₁) (showed x₂ u₂ v₂ d₂ y₂ k₂) c₁ c₂ = decided-open w₁ d₂
 single f s (showed-short x₁ d₁ s₁) (showed-off x₂) c₁ c₂ = off x₂ x₁
-single f s (showed-short x₁ d₁ s₁) (showed-decided x₂ w₂) c₁ c₂ = dec-open w₂ d₁
+single f s (showed-short x₁ d₁ s₁) (showed-decided x₂ w₂) c₁ c₂ = decided-open w₂ d₁
 single f s (showed-short x₁ d₁ s₁) (showed-short x₂ d₂ s₂) c₁ c₂ = (refl, refl)
 single f s (showed-short x₁ d₁ s₁) (showed x₂ u₂ v₂ d₂ y₂ k₂) c₁ c₂ = room s₁ u₂ v₂
 single f s (showed x₁ u₁ v₁ d₁ y₁ k₁) (showed-off x₂) c₁ c₂ = off x₂ x₁
-single f s (showed x₁ u₁ v₁ d₁ y₁ k₁) (showed-decided x₂ w₂) c₁ c₂ = dec-open w₂ d₁
+single f s (showed x₁ u₁ v₁ d₁ y₁ k₁) (showed-decided x₂ w₂) c₁ c₂ = decided-open w₂ d₁
 single f s (showed x₁ u₁ v₁ d₁ y₁ k₁) (showed-short x₂ d₂ s₂) c₁ c₂ = room s₂ u₁ v₁
 single f s (showed x₁ u₁ v₁ d₁ y₁ k₁) (showed x₂ u₂ v₂ d₂ y₂ k₂) c₁ c₂ =
     (ap₂ (λ (a b : List ℕ). lent D.shown a b) (y₁ .same-rest ∙ sym (y₂ .same-rest)) (k₁ .same-rest ∙ sym (k₂ .same-rest)), refl)
@@ -243,8 +239,8 @@ single f s (checked-not l₁ i₁ z₁) (checked-off p₂ q₂ l₂ t₂ h₂) c
 single f s (checked-not l₁ i₁ z₁) (checked-fits l₂ f₂) c₁ c₂ = absurd (z₁ f₂)
 single f s (checked-not l₁ i₁ z₁) (checked-not l₂ i₂ z₂) c₁ c₂ = (refl, refl)
 single f s (whole-settled a₁) (whole-settled a₂) c₁ c₂ = (refl, refl)
-single f s (whole-settled a₁) (whole-open {i = i} x₂ d₂) c₁ c₂ = dec-open (a₁ i x₂) d₂
-single f s (whole-open {i = i} x₁ d₁) (whole-settled a₂) c₁ c₂ = dec-open (a₂ i x₁) d₁
+single f s (whole-settled a₁) (whole-open {i = i} x₂ d₂) c₁ c₂ = decided-open (a₁ i x₂) d₂
+single f s (whole-open {i = i} x₁ d₁) (whole-settled a₂) c₁ c₂ = decided-open (a₂ i x₁) d₁
 single f s (whole-open x₁ d₁) (whole-open x₂ d₂) c₁ c₂ = (refl, refl)
 single {A = A} f s (gave-unmourned u₁) (gave-unmourned u₂) c₁ c₂ = (ap places (same-unmourned (A .accepted) u₁ u₂), refl)
 single {A = A} f s (gave-absent u₁ a₁) (gave-absent u₂ a₂) c₁ c₂ = (ap places (same-absent (A .accepted) u₁ u₂ a₁ a₂), refl)
