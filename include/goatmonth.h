@@ -36,12 +36,15 @@ enum { GM_MEMBERS = 128, GM_RECORD_BYTES = 1031, GM_HISTORY_BYTES = 2048 };
  * hears, and the records of a day have its kind. A recovery has no kind: it takes records of both. */
 enum { GM_FULL = 1, GM_SHORT = 2 };
 
+/* The bytes of gm_list. */
+enum { GM_BYTE_NOT_LAST = 0, GM_BYTE_LAST = 1, GM_BYTE_OPEN = 2 };
+
 /* Events of a day. */
 enum { GM_STOP = 1, GM_HEAR = 2 };
 
 /* Answers that are no refusals. */
 enum {
-    GM_DONE = 0,        /* opened, taken, given, shown, read or written */
+    GM_DONE = 0,        /* opened, taken, given, shown, listed, read or written */
     GM_REPEATED = 32,   /* the record of one that is back, the same as before */
     GM_LAST = 33,       /* in every history that fits, nobody heard it stop */
     GM_NOT_LAST = 34,   /* in every history that fits, somebody heard it stop */
@@ -90,14 +93,15 @@ enum {
  * recoveries of their own.
  *
  * A caller that writes into the struct itself gets answers by what it wrote. The full, the mourned and the earlier places are what the
- * words say, and no call holds them against the rows. By the mourned ones go gm_ask, gm_settled, gm_show and the three gm_unmourned..,
- * by the earlier ones gm_ask, gm_settled and gm_show; gm_offer only adds to these two. The record of a place that is back is its row,
- * without bits off the roster, and full if the words say so: gm_offer, gm_check and gm_write go by these records, and so do gm_ask,
- * gm_settled and gm_show where they follow records. A full place that is not back counts for nothing until it is back; then its record
- * is full, whatever kind was offered. gm_show lays the rows of the roster down as they stand, whoever is back and with all their bits,
- * but for the one row that makes the second history differ. gm_find, gm_give and gm_offer go by `serials` and `seconds`: a second serial
- * counts as the first one of its place, and is found at the lowest place where that stands. Other bits off the roster, other rows, and
- * what stands behind the roster in `serials` and `seconds` are never looked at.
+ * words say, and no call holds them against the rows. By the mourned ones go gm_ask, gm_list, gm_settled, gm_show and the three
+ * gm_unmourned.., by the earlier ones gm_ask, gm_list, gm_settled and gm_show; gm_offer only adds to these two. The record of a place that
+ * is back is its row, without bits off the roster, and full if the words say so: gm_offer, gm_check and gm_write go by these records, and
+ * so do gm_ask, gm_list, gm_settled and gm_show where they follow records: they look there for mourned places only, so that a place that is
+ * neither back nor among the mourned or the earlier ones keeps every other unmourned place open, whatever the rows say. A full place that
+ * is not back counts for nothing until it is back; then its record is full, whatever kind was offered. gm_show lays the rows of the roster
+ * down as they stand, whoever is back and with all their bits, but for the one row that makes the second history differ. gm_find, gm_give
+ * and gm_offer go by `serials` and `seconds`: a second serial counts as the first one of its place, and is found at the lowest place where
+ * that stands. Other bits off the roster, other rows, and what stands behind the roster in `serials` and `seconds` are never looked at.
  */
 typedef struct gm_recovery {
     uint64_t head[9];
@@ -165,6 +169,11 @@ uint8_t gm_offer(uint64_t head[9], const uint32_t serials[128], const uint32_t s
 
 /* The answer for a place: GM_LAST, GM_NOT_LAST, GM_OPEN, or 12. */
 uint8_t gm_ask(const uint64_t head[9], const uint8_t rows[2048], size_t place);
+
+/* The answers of all places at once, into the front of `out`: one byte a place in roster order, GM_BYTE_NOT_LAST, GM_BYTE_LAST or
+ * GM_BYTE_OPEN, each as gm_ask answers for that place. GM_DONE, or 13 where `length` is less than the number of members. Bytes behind the
+ * members' stay as they are. */
+uint8_t gm_list(const uint64_t head[9], const uint8_t rows[2048], uint8_t *out, size_t length);
 
 /* The place of a serial, and which of the place's two it is. One that stands on the roster is a first serial, and only another is
  * looked for among the second ones, where 0 is none. So 0 is never found in a recovery that was opened. */
@@ -261,6 +270,11 @@ static inline uint8_t gm_recovery_offer(gm_recovery *r, const uint8_t *bytes, si
 static inline uint8_t gm_recovery_ask(const gm_recovery *r, size_t place)
 {
     return gm_ask(r->head, r->rows, place);
+}
+
+static inline uint8_t gm_recovery_list(const gm_recovery *r, uint8_t *out, size_t length)
+{
+    return gm_list(r->head, r->rows, out, length);
 }
 
 static inline gm_found gm_recovery_find(const gm_recovery *r, uint32_t serial)

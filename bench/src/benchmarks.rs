@@ -23,6 +23,9 @@ pub fn run() {
         asking(&mut table, kinds, full);
     }
     for (kinds, full) in MIXES {
+        listing(&mut table, kinds, full);
+    }
+    for (kinds, full) in MIXES {
         showing(&mut table, kinds, full);
     }
     for (kinds, full) in MIXES {
@@ -50,14 +53,14 @@ fn reading(table: &mut Table) {
 
 // A group, its records in some order, and both recoveries with so many of them taken. Rows and buffers of both sides are on the heap,
 // where they lie at multiples of 16 bytes.
-struct Scene {
+pub struct Scene {
     group: Group,
     records: Vec<Vec<u8>>,
-    library: Box<proved::Recovery>,
+    pub library: Box<proved::Recovery>,
     plain: Recovery,
 }
 
-fn scene(seed: u64, full: Set, n: usize, percent: usize, taken: usize) -> Scene {
+pub fn scene(seed: u64, full: Set, n: usize, percent: usize, taken: usize) -> Scene {
     let mut random = Random::new(seed);
     let truth = make::history_of(&mut random, full, n, percent);
     let group = Group { full, roster: make::ordered("random order", n), truth };
@@ -126,6 +129,19 @@ fn asking(table: &mut Table, kinds: &str, full: Set) {
             || (0..n).for_each(|place| _ = black_box(plain.ask(black_box(place)))),
         );
         table.add(&format!("asking every place, {kinds}"), n, times);
+    }
+}
+
+// All places in one call, with half of the members back.
+fn listing(table: &mut Table, kinds: &str, full: Set) {
+    for n in SIZES {
+        let (Scene { library, plain, .. }, _) = half_back(full, n);
+        let (mut theirs, mut out) = (vec![9; n], vec![9; n]);
+        assert_eq!((library.list(&mut theirs), plain.list(&mut out)), (0, Ok(())));
+        assert_eq!(theirs, out);
+        let times =
+            calls(|| _ = black_box(library.list(black_box(&mut theirs))), || _ = black_box(black_box(&plain).list(black_box(&mut out))));
+        table.add(&format!("listing every place, {kinds}"), n, times);
     }
 }
 

@@ -6,6 +6,8 @@ mod benchmarks;
 mod clock;
 #[cfg(proved)]
 mod differential;
+#[cfg(proved)]
+mod listing;
 mod make;
 mod plain;
 #[cfg(proved)]
@@ -20,6 +22,7 @@ const USAGE: &str = "commands:
   differential [SEED [CALLS]]  the library and the plain implementation, call by call
   streams [SEED [COUNT]]       target/bin/recover, or the program that GM_PROGRAM names, and the plain program
   bench                        times of the library's calls beside plain Rust's
+  listing                      instructions of one list beside askings of every place, 128 members; runs itself under valgrind
   bench-program                times of the program beside the plain program
   program                      the plain program: standard input to standard output";
 
@@ -35,8 +38,12 @@ fn main() {
         "differential" => differential::run(number(1, 1), number(2, 10_000_000)),
         #[cfg(proved)]
         "bench" => benchmarks::run(),
+        #[cfg(proved)]
+        "listing" => listing::run(),
+        #[cfg(proved)]
+        listing::ONCE => listing::once(number(1, 0) as usize, number(2, 0) as usize, number(3, 0) as usize),
         #[cfg(not(proved))]
-        "differential" | "bench" => {
+        "differential" | "bench" | "listing" => {
             eprintln!("built without the library: run rt staticlib capi, or set GM_LIBRARY, and build again");
             std::process::exit(2);
         }

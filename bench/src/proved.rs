@@ -85,6 +85,9 @@ pub struct Found {
     pub place: u64,
 }
 
+// What gm_ask gives for a place, by its byte in gm_list.
+pub const ASKED: [u8; 3] = [34, 33, 35];
+
 unsafe extern "C" {
     fn gm_open(list: *const u32, length: usize, head: &mut Head, serials: &mut Serials, seconds: &mut Serials, rows: &mut Rows) -> u8;
     fn gm_offer(head: &mut Head, serials: &Serials, seconds: &Serials, rows: &mut Rows, bytes: *const u8, length: usize) -> u8;
@@ -95,6 +98,7 @@ unsafe extern "C" {
     fn gm_unmourned_absent(head: &Head, out: &mut [u64; 2]);
     fn gm_unmourned_count(head: &Head) -> usize;
     fn gm_settled(head: &Head, rows: &Rows) -> u8;
+    fn gm_list(head: &Head, rows: &Rows, out: *mut u8, length: usize) -> u8;
     fn gm_show(head: &Head, rows: &Rows, place: usize, first: *mut u8, first_length: usize, second: *mut u8, second_length: usize) -> u8;
     fn gm_check(head: &Head, rows: &Rows, history: *const u8, length: usize) -> u8;
     fn gm_write(head: &Head, serials: &Serials, rows: &Rows, place: usize, out: *mut u8, length: usize, at: usize) -> End;
@@ -183,6 +187,10 @@ impl Recovery {
 
     pub fn settled(&self) -> u8 {
         unsafe { gm_settled(&self.head, &self.rows) }
+    }
+
+    pub fn list(&self, out: &mut [u8]) -> u8 {
+        unsafe { gm_list(&self.head, &self.rows, out.as_mut_ptr(), out.len()) }
     }
 
     pub fn show(&self, place: usize, first: &mut [u8], second: &mut [u8]) -> u8 {

@@ -1,10 +1,11 @@
 // Lists of calls on a recovery.
 use super::{Run, garbled, list_length, noise, put_row, row_of, set_of, words};
 use crate::make::{self, Group};
+use crate::plain::Refusal;
 use crate::plain::boards::Which;
 use crate::plain::recovery::{Answer, Offer, Recovery, Showing};
 use crate::plain::set::{Set, below, members};
-use crate::proved::{self, Found};
+use crate::proved::{self, ASKED, Found};
 
 // The library's recovery, what it has to be, and the plain one.
 struct Pair {
@@ -42,13 +43,14 @@ pub fn list(run: &mut Run) {
     }
     for _ in 0..list_length(&mut run.random) {
         match run.random.below(100) {
-            0..43 => offer(run, &mut pair),
-            43..47 => give(run, &mut pair),
-            47..59 => ask(run, &pair),
-            59..64 => find(run, &pair),
-            64..72 => sets(run, &pair),
-            72..82 => show(run, &pair),
-            82..93 => check(run, &pair),
+            0..42 => offer(run, &mut pair),
+            42..46 => give(run, &mut pair),
+            46..56 => ask(run, &pair),
+            56..61 => find(run, &pair),
+            61..69 => sets(run, &pair),
+            69..75 => list_all(run, &pair),
+            75..84 => show(run, &pair),
+            84..94 => check(run, &pair),
             _ => write(run, &pair),
         }
         run.same("the recovery afterwards", &pair.wanted, &pair.library);
@@ -56,6 +58,8 @@ pub fn list(run: &mut Run) {
     for place in 0..pair.plain.roster.len() {
         ask_one(run, &pair, place);
     }
+    list_all(run, &pair);
+    run.same("the recovery afterwards", &pair.wanted, &pair.library);
 }
 
 // An opening that is refused often.
@@ -149,15 +153,19 @@ fn offer(run: &mut Run, pair: &mut Pair) {
     members(taken).for_each(|own| put_row(&mut pair.wanted.rows, own, pair.plain.rows[own]));
 }
 
-fn ask_one(run: &mut Run, pair: &Pair, place: usize) {
-    run.begin("ask", &[place], &[]);
-    let plain = match pair.plain.ask(place) {
+// What asking gives, as a number.
+fn number(asked: Result<Answer, Refusal>) -> u8 {
+    match asked {
         Ok(Answer::Last) => 33,
         Ok(Answer::NotLast) => 34,
         Ok(Answer::Open) => 35,
         Err(refusal) => refusal,
-    };
-    run.answer(plain as u64, pair.library.ask(place) as u64);
+    }
+}
+
+fn ask_one(run: &mut Run, pair: &Pair, place: usize) {
+    run.begin("ask", &[place], &[]);
+    run.answer(number(pair.plain.ask(place)) as u64, pair.library.ask(place) as u64);
 }
 
 fn ask(run: &mut Run, pair: &Pair) {
@@ -220,6 +228,27 @@ fn sets(run: &mut Run, pair: &Pair) {
 fn a_set(run: &mut Run, plain: Set, library: [u64; 2]) {
     run.same("set", &words(plain), &library);
     run.answer((plain == 0) as u64, (library == [0, 0]) as u64);
+}
+
+// All answers at once, with room for them or too little.
+fn list_all(run: &mut Run, pair: &Pair) {
+    let n = pair.plain.roster.len();
+    let length = make::length(&mut run.random, n);
+    let (mut out, mut theirs) = run.buffers(length);
+    run.begin("list", &[length], &[]);
+    let plain = pair.plain.list(out.part()).err().unwrap_or(0);
+    let library = pair.library.list(theirs.part());
+    run.answer(plain as u64, library as u64);
+    run.same("the buffer afterwards", &out, &theirs);
+    if plain != 0 {
+        return;
+    }
+    // both list the same, so each lists what it answers if it lists what the other answers
+    for place in 0..n {
+        let [listed, theirs] = [&mut out, &mut theirs].map(|buffer| ASKED[buffer.part()[place] as usize]);
+        run.same("a place asked, and listed", &number(pair.plain.ask(place)), &theirs);
+        run.same("a place listed, and asked", &listed, &pair.library.ask(place));
+    }
 }
 
 fn show(run: &mut Run, pair: &Pair) {

@@ -2,7 +2,7 @@
 use super::Refusal;
 use super::boards::Boards;
 use super::record::{self, Record};
-use super::recovery::{Answer, Offer, Recovery};
+use super::recovery::{Offer, Recovery};
 use std::io::{self, BufWriter, Read, Write};
 
 // A part of the input, from `start` on, that always holds a whole record if the input does.
@@ -83,14 +83,10 @@ pub fn run(input: impl Read, output: impl Write) -> io::Result<()> {
 }
 
 fn list(recovery: &Recovery, output: &mut impl Write) -> io::Result<()> {
-    for (place, serial) in recovery.roster.iter().enumerate() {
-        let word = match recovery.ask(place) {
-            Ok(Answer::Last) => "last",
-            Ok(Answer::NotLast) => "not",
-            Ok(Answer::Open) => "open",
-            Err(_) => unreachable!("a place of the roster"),
-        };
-        writeln!(output, "{serial} {word}")?;
+    let mut answers = vec![0; recovery.roster.len()];
+    recovery.list(&mut answers).expect("a byte for each place");
+    for (serial, answer) in recovery.roster.iter().zip(answers) {
+        writeln!(output, "{serial} {}", ["not", "last", "open"][answer as usize])?;
     }
     writeln!(output, "whole {}", if recovery.settled() { "settled" } else { "open" })
 }

@@ -1,4 +1,4 @@
-// A recovery: offering, giving second serials, asking, showing, checking.
+// A recovery: offering, giving second serials, asking, listing, showing, checking.
 use super::boards::{Boards, Which};
 use super::record::{self, Record};
 use super::set::{Set, below, has, members};
@@ -28,11 +28,12 @@ pub enum Offer {
     Repeated,
 }
 
+// Each is its byte in a list.
 #[derive(Clone, Copy, Debug, PartialEq, Eq)]
 pub enum Answer {
-    Last,
-    NotLast,
-    Open,
+    NotLast = 0,
+    Last = 1,
+    Open = 2,
 }
 
 #[derive(Clone, Copy, Debug, PartialEq, Eq)]
@@ -124,11 +125,24 @@ impl Recovery {
         seen
     }
 
-    // Other absent places that are neither before this one nor before a returned full one.
+    // Other absent places that are not before a returned full one.
+    fn unheard(&self, place: usize) -> Set {
+        below(self.roster.len()) & !self.returned & !(1 << place) & !self.earlier
+    }
+
+    // Those of them that are not before this one either.
     fn blockers(&self, place: usize) -> Set {
-        let others = below(self.roster.len()) & !self.returned & !(1 << place) & !self.earlier;
-        // those before a returned full place are among the earlier ones
-        if others == 0 || has(self.returned & self.full, place) { others } else { others & !self.before(place) }
+        let others = self.unheard(place);
+        // those before a returned full place are among the earlier ones, and all that are before a place are mourned
+        if others & self.mourned == 0 || has(self.returned & self.full, place) {
+            others
+        } else {
+            others & !(self.before(place) & self.mourned)
+        }
+    }
+
+    fn blocked(&self, place: usize) -> bool {
+        self.unheard(place) & !self.mourned != 0 || self.blockers(place) != 0
     }
 
     fn before(&self, place: usize) -> Set {
@@ -138,10 +152,10 @@ impl Recovery {
     fn answer(&self, place: usize) -> Answer {
         if has(self.mourned, place) {
             Answer::NotLast
-        } else if self.blockers(place) == 0 {
-            Answer::Last
-        } else {
+        } else if self.blocked(place) {
             Answer::Open
+        } else {
+            Answer::Last
         }
     }
 
@@ -185,6 +199,16 @@ impl Recovery {
 
     pub fn settled(&self) -> bool {
         members(self.unmourned()).all(|place| self.answer(place) != Answer::Open)
+    }
+
+    // Lays the answers of all places into the front of a buffer, a byte each.
+    pub fn list(&self, out: &mut [u8]) -> Result<(), Refusal> {
+        let front = out.get_mut(..self.roster.len()).ok_or(13)?;
+        front.fill(Answer::NotLast as u8);
+        for place in members(self.unmourned()) {
+            front[place] = self.answer(place) as u8;
+        }
+        Ok(())
     }
 
     pub fn show(&self, place: usize, first: &mut [u8], second: &mut [u8]) -> Result<Showing, Refusal> {

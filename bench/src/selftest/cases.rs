@@ -19,6 +19,23 @@ fn offer(r: &mut Recovery, kind: Kind, own: usize, mourned: &[usize]) -> u8 {
     }
 }
 
+// The bytes of all answers: in one list, and asked one by one.
+fn list(r: &Recovery) -> Vec<u8> {
+    let mut out = vec![9; r.roster.len()];
+    assert_eq!(r.list(&mut out), Ok(()));
+    out
+}
+
+fn asked(r: &Recovery) -> Vec<u8> {
+    let byte = |place| match r.ask(place) {
+        Ok(NotLast) => 0,
+        Ok(Last) => 1,
+        Ok(Open) => 2,
+        Err(refusal) => panic!("refused by {refusal}"),
+    };
+    (0..r.roster.len()).map(byte).collect()
+}
+
 // A case of document 01: its name, the kind, how many, the records with their answers, then the answers for controllers and the whole.
 type Case<'a> = (&'a str, Kind, u32, &'a [(usize, &'a [usize], u8)], &'a [(usize, Answer)], Option<bool>);
 
@@ -54,6 +71,7 @@ pub fn table() -> u64 {
         for &(controller, wanted) in *answers {
             assert_eq!(r.ask(controller - 1), Ok(wanted), "{name}: {controller}");
         }
+        assert_eq!(list(&r), asked(&r), "{name}");
         assert!(settled.is_none_or(|settled| r.settled() == settled), "{name}");
     }
     table.len() as u64
@@ -83,6 +101,7 @@ pub fn both_kinds() -> u64 {
         for &(controller, wanted) in *answers {
             assert_eq!(r.ask(controller - 1), Ok(wanted), "{name}: {controller}");
         }
+        assert_eq!(list(&r), asked(&r), "{name}");
         assert_eq!(r.settled(), *settled, "{name}");
     }
     table.len() as u64
@@ -111,4 +130,23 @@ pub fn borders() -> u64 {
     assert_eq!((r.write(1, &mut [], 0), r.write(0, &mut [0; 19], 1), r.write(0, &mut [0; 19], usize::MAX)), (Err(14), Err(13), Err(13)));
     assert_eq!(r.write(0, &mut [0; 19], 0), Ok(19));
     17
+}
+
+// 13 goes by the roster's length and changes nothing, and bytes past the roster stay.
+pub fn listed() -> u64 {
+    let mut r = open(4);
+    let mut out = [9; 7];
+    assert_eq!((r.list(&mut []), r.list(&mut out[..3]), out), (Err(13), Err(13), [9; 7]));
+    assert_eq!((r.list(&mut out[..4]), out), (Ok(()), [2, 2, 2, 2, 9, 9, 9]));
+    assert_eq!((offer(&mut r, Short, 1, &[]), offer(&mut r, Short, 4, &[2, 3])), (0, 0));
+    assert_eq!((r.list(&mut out), out), (Ok(()), [2, 0, 0, 1, 9, 9, 9]));
+    assert_eq!((offer(&mut r, Short, 2, &[1]), r.list(&mut out), out), (0, Ok(()), [0, 0, 0, 1, 9, 9, 9]));
+    assert_eq!(list(&open(1)), [1]);
+    let mut r = open(128);
+    let mut out = [9; 129];
+    assert_eq!((r.list(&mut out[..127]), out), (Err(13), [9; 129]));
+    let others: Vec<usize> = (2..=128).collect();
+    assert_eq!((offer(&mut r, Full, 1, &others), r.list(&mut out)), (0, Ok(())));
+    assert_eq!((out[0], &out[1..128], out[128]), (1, &[0; 127][..], 9));
+    9
 }

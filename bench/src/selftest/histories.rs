@@ -85,7 +85,9 @@ fn pile_checks(pile: &[Option<Record>], all: &[Rows]) -> u64 {
         }
     }
     let last_in = |rows: &[Set], p: usize| rows.iter().all(|&row| !has(row, p));
-    for p in 0..n {
+    let mut listed = vec![9; n];
+    assert_eq!(r.list(&mut listed), Ok(()));
+    for (p, &byte) in listed.iter().enumerate() {
         let count = fitting.iter().filter(|rows| last_in(&rows.rows, p)).count();
         let wanted = if count == fitting.len() {
             Last
@@ -94,7 +96,7 @@ fn pile_checks(pile: &[Option<Record>], all: &[Rows]) -> u64 {
         } else {
             Open
         };
-        assert_eq!(r.ask(p), Ok(wanted), "{pile:?} {p}");
+        assert_eq!((r.ask(p), byte), (Ok(wanted), wanted as u8), "{pile:?} {p}");
         let (mut a, mut b) = (vec![1; 16 * n], vec![1; 16 * n]);
         assert_eq!(r.show(p, &mut a, &mut b), Ok(if wanted == Open { Showing::Shown } else { Showing::Decided }));
         if wanted == Open {
@@ -113,7 +115,7 @@ fn pile_checks(pile: &[Option<Record>], all: &[Rows]) -> u64 {
         (unmourned, unmourned & !r.returned, unmourned.count_ones() as usize)
     );
     assert_eq!(r.settled(), (0..n).all(|p| r.ask(p) != Ok(Open)));
-    (n + 2 * n * (1 << n) + all.len() + 4) as u64
+    (2 * n + 2 * n * (1 << n) + all.len() + 4) as u64
 }
 
 // Days that end: every record is taken in any order, and what is answered on the way is true of the day.

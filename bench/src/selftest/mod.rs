@@ -14,6 +14,7 @@ pub fn run() {
         ("P1 to P12 and others", cases::table),
         ("both kinds in one group", cases::both_kinds),
         ("buffers and places", cases::borders),
+        ("all answers in one list", cases::listed),
         ("faults of a record", records::faults),
         ("lists of serials", records::lists),
         ("writing and reading", records::round_trips),

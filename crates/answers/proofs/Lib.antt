@@ -1,4 +1,5 @@
 pub mod Views
 pub mod Walks
 pub mod Answers
+pub mod OpenPlaces
 pub mod Acceptance

@@ -1,4 +1,4 @@
--- The two walks over the returned places: each gives its row once. Assumes nothing.
+-- The walks over the returned places: each gives its row once. Assumes nothing.
 use mathlib.Core.Path.{_≡_, refl, sym, ap, _∙_, fun-ext}
 use mathlib.Core.Bool.{Bool, true, false, not, _&&_, _||_}
 use mathlib.Core.Logic.{_⊎_, inl, inr, ⊎-elim}
@@ -6,17 +6,18 @@ use mathlib.Core.List.{List}
 use Prim.Native.Nat.{ℕ, _<_}
 use lib.Dec.{eqb}
 use borrow.Author.Tests.{eqb-true}
-use Rattle.places.specs.Sets.{Places, nothing, below, union, intersection, without, any}
+use Rattle.places.specs.Sets.{Places, nothing, below, union, intersection, difference, without, any, subset}
 use Rattle.places.specs.PlaceSets.{has}
 use Rattle.places.specs.declared.PlaceSet.{PlaceSet}
-use Rattle.places.proofs.Booleans.{clash, is-false, both-ways, and-intro, and-left, and-right, or-cases, or-left, or-right, minus-intro}
-use Rattle.places.proofs.Tests.{any-elim, any-intro}
+use Rattle.places.proofs.Booleans.{clash, is-false, is-true, both-ways, and-intro, and-left, and-right, or-cases, or-left, or-right, minus-elim, minus-intro}
+use Rattle.places.proofs.Tests.{any-elim, any-intro, subset-elim, subset-intro}
 use Rattle.places.proofs.Laws.{has-below}
 use Rattle.rows.specs.Rows.{rowsOf}
 use Rattle.histories.specs.Histories.{Row, History, Before, heard, through, Accepted}
 use Rattle.histories.specs.Rule.{recorded, reach}
 use Rattle.histories.proofs.Closure.{before-trans, reach-sound, reach-complete}
-use Rattle.answers.specs.Views.{size, acceptedIn, recordedIn, reachFrom}
+use Rattle.answers.specs.Views.{size, acceptedIn, recordedIn, reachFrom, Sought}
+use Rattle.answers.proofs.Answers.{none-has, some-has}
 use Rattle.answers.proofs.Views.{On, accepted-on, cut, cut-is, cut-on, recorded-back, recorded-absent, recorded-parts, recorded-intro}
 
 -- what holds at each turn of a walk towards the set T: `seen` holds nothing else, and the rows of all returned places that
@@ -63,6 +64,11 @@ walk-goes A T seen left t p good m row more rest er eu ew = record {
 pub record Reaching (n : ℕ) (A : Accepted) (S seen left : PlaceSet) : Type 0 where
   pub walk : Walk A (reachFrom n (recorded A) (has S)) seen left
   pub begun : (q : ℕ) → has S q ≡ true → has seen q ≡ true
+
+-- the same where the walk looks for `first`: besides, `lacking` is what of that was not seen
+pub record Seeking (n : ℕ) (A : Accepted) (S first seen left lacking : PlaceSet) : Type 0 where
+  pub reaching : Reaching n A S seen left
+  pub lacks : has lacking ≡ difference (has first) (has seen)
 
 -- ---- what is before
 
@@ -178,6 +184,62 @@ module _ (count : ℕ) (w : List ℕ) (all s back : PlaceSet) (ea : has all ≡ 
     pub reached-ends : ((k : ℕ) → k < 128 → has next k ≡ false) → has seen ≡ reachFrom (size count) (recordedIn count (has s) w) (has S)
     reached-ends none =
         reaching-ends (size count) (cut all back w) on S seen left t next e none ∙ ap (λ (H : History). reachFrom (size count) H (has S)) whole
+
+  -- a walk that looks for `rest`: `first` is what of it is not in S
+  module _ (S rest first : PlaceSet) (ef : has first ≡ difference (has rest) (has S)) where
+    pub sought-starts : Seeking (size count) (cut all back w) S first S back first
+    sought-starts = record { reaching = reached-starts S; lacks = ef ∙ fun-ext (λ q. at (has rest q) (has S q)) ∙ ap (λ (X : Places). difference X (has S)) (sym ef) }
+      where
+        at : (a b : Bool) → a && not b ≡ a && not b && not b
+        at false b = refl
+        at true true = refl
+        at true false = refl
+
+    lacks-of : (seen left lacking : PlaceSet) → Seeking (size count) (cut all back w) S first seen left lacking → has lacking ≡ difference (has rest) (has seen)
+    lacks-of seen left lacking t =
+        t .lacks ∙ ap (λ (X : Places). difference X (has seen)) ef ∙ fun-ext (λ q. at (has rest q) (has S q) (has seen q) (t .reaching .begun q))
+      where
+        at : (a b : Bool) (c : Bool) → (b ≡ true → c ≡ true) → a && not b && not c ≡ a && not c
+        at false b c h = refl
+        at true false c h = refl
+        at true true true h = refl
+        at true true false h = h refl
+
+    module _ (seen left lacking : PlaceSet) (t : Seeking (size count) (cut all back w) S first seen left lacking)
+        (none : Bool) (en : none ≡ not (any 128 (has lacking))) where
+      -- all of it was seen
+      pub sought-holds : none ≡ true → Sought (has rest) (reachFrom (size count) (recordedIn count (has s) w) (has S)) true (has seen)
+      sought-holds h = record {
+        told = sym (ap (λ (H : History). subset 128 (has rest) (reachFrom (size count) H (has S))) (sym whole) ∙ subset-intro 128 (has rest) (reachFrom (size count) (recorded (cut all back w)) (has S)) (λ k l r. t .reaching .walk .sound k (met k r)));
+        whole = λ f. clash refl f;
+      }
+        where
+          met : (k : ℕ) → has rest k ≡ true → has seen k ≡ true
+          met k r = is-true (has seen k) (λ f. clash (ap (λ (X : Places). X k) (lacks-of seen left lacking t) ∙ minus-intro r f) (none-has lacking none en h k))
+
+      -- the walk ended before
+      pub sought-lacks : none ≡ false → has seen ≡ reachFrom (size count) (recordedIn count (has s) w) (has S)
+          → Sought (has rest) (reachFrom (size count) (recordedIn count (has s) w) (has S)) false (has seen)
+      sought-lacks f e = record { told = sym (ap (subset 128 (has rest)) (sym e) ∙ is-false (subset 128 (has rest) (has seen)) one); whole = λ _. e }
+        where
+          one : subset 128 (has rest) (has seen) ≡ true → ⊥
+          one h =
+              let q = some-has lacking none en f in
+              let m = minus-elim (has rest (q .0)) (has seen (q .0)) (sym (ap (λ (X : Places). X (q .0)) (lacks-of seen left lacking t)) ∙ q .1) in
+              clash (subset-elim 128 (has rest) (has seen) h (q .0) (has-below rest (q .0) (m .0)) (m .0)) (m .1)
+
+-- what is lacking, after a row was taken in
+pub lacks-less : (rest seen row lacking more less : PlaceSet) → has lacking ≡ difference (has rest) (has seen) → has more ≡ union (has seen) (has row) → has less ≡ difference (has lacking) (has row)
+    → has less ≡ difference (has rest) (has more)
+lacks-less rest seen row lacking more less e eu ed =
+    ed ∙ ap (λ (S : Places). difference S (has row)) e ∙ fun-ext (λ q. at (has rest q) (has seen q) (has row q)) ∙ ap (difference (has rest)) (sym eu)
+  where
+    at : (a b c : Bool) → a && not b && not c ≡ a && not (b || c)
+    at false b c = refl
+    at true true true = refl
+    at true true false = refl
+    at true false true = refl
+    at true false false = refl
 
 -- from the recorded row of a place: what is before it
 pub before-row : (count : ℕ) (R : Places) (w : List ℕ) (i : ℕ) → reachFrom (size count) (recordedIn count R w) (recordedIn count R w i) ≡ reach (size count) (recordedIn count R w) i

@@ -1,9 +1,10 @@
 -- The accepted records that a table of rows holds, for whatever values it is handed. Assumes nothing.
-use mathlib.Core.Bool.{Bool, cond, _&&_, _||_}
+use mathlib.Core.Path.{_≡_}
+use mathlib.Core.Bool.{Bool, false, cond, _&&_, _||_}
 use mathlib.Core.List.{List}
 use Prim.Native.Nat.{ℕ}
 use lib.Dec.{leb}
-use Rattle.places.specs.Sets.{Places, below, intersection, any}
+use Rattle.places.specs.Sets.{Places, below, intersection, any, subset}
 use Rattle.rows.specs.Rows.{rowsOf}
 use Rattle.histories.specs.declared.Kind.{Kind}
 use Rattle.histories.specs.declared.Kind.the-variants.{Full, Short}
@@ -35,6 +36,11 @@ recordedIn count returned w p q = intersection (below (size count)) returned p &
 -- S, and all that is before a member of it
 unfoldable pub reachFrom : ℕ → History → Row → Row
 reachFrom n H S q = S q || any n (λ m. S m && reach n H m q)
+
+-- a search for `rest` in T: it tells whether T holds all of that, and if not it saw T
+pub record Sought (rest T : Places) (holds : Bool) (seen : Places) : Type 0 where
+  pub told : holds ≡ subset 128 rest T
+  pub whole : holds ≡ false → seen ≡ T
 
 -- document 01's words for the rule's answers
 unfoldable pub answerOf : Answer → declared.Answer

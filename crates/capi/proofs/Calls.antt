@@ -21,16 +21,18 @@ use Rattle.groups.specs.declared.Giving.the-variants as Y
 use Rattle.groups.specs.Groups.{aliasIn, foundAmong, giving}
 use Rattle.checks.specs.Checks.{offRoster}
 use Rattle.shows.specs.Shows.{Shown, shownIn}
+use Rattle.lists.specs.declared.Listing.{Listing}
+use Rattle.lists.specs.Lists.{ListedAll, listedIn}
 use Rattle.shows.specs.declared.Showing.{Showing}
 use Rattle.recovery.specs.declared.Recovery.{Recovery}
 use Rattle.recovery.specs.declared.Gave.{Gave}
 use Rattle.recovery.specs.declared.Checked.the-variants as C
-use Rattle.recovery.specs.Contracts.{sizeOf, rosterOf, secondsOf, aliasOf, acceptedOf, asked, shown, checked, settledOf, unmournedOf, unmournedAbsentOf, unmournedCountOf, foundIn, withSecond, gaveAs, given}
+use Rattle.recovery.specs.Contracts.{sizeOf, rosterOf, secondsOf, aliasOf, acceptedOf, asked, shown, checked, settledOf, unmournedOf, unmournedAbsentOf, unmournedCountOf, foundIn, withSecond, gaveAs, given, listedOf}
 use Rattle.recovery.proofs.Calls.{asked-off, checked-short, checked-off, checked-on}
 use Rattle.recovery.proofs.Gives.{askedOf, asked-on, absent-set, count-set}
 use Rattle.capi.specs.declared.Head.{Head}
 use Rattle.capi.specs.declared.FoundNow.{FoundNow}
-use Rattle.capi.specs.Boundary.{setAt, setWords, recoveryIn, askedCode, showingCode, checkedCode, yesCode, foundOf, givingCode, wordsOf}
+use Rattle.capi.specs.Boundary.{setAt, setWords, recoveryIn, askedCode, showingCode, listingCode, checkedCode, yesCode, foundOf, givingCode, wordsOf}
 
 -- what nine words say
 abbrev pub Says : List ℕ → Head → Type 0
@@ -68,6 +70,9 @@ acceptedAt h rows = acceptedIn (h .count) (has (h .returned)) (has (h .full)) ro
 
 abbrev shownAt : Head → List ℕ → ℕ → List ℕ → List ℕ → Shown
 shownAt h rows p a b = shownIn (size (h .count)) (acceptedAt h rows) (has (h .mourned)) (has (h .earlier)) (rowsOf rows) p a b
+
+abbrev listedAt : Head → List ℕ → List ℕ → ListedAll
+listedAt h rows out = listedIn (size (h .count)) (acceptedAt h rows) (has (h .mourned)) (has (h .earlier)) out
 
 -- the words of a set are those of its places
 words-are : (s : PlaceSet) (S : Places) → Words s → has s ≡ S → setWords s ≡ wordsOf S
@@ -138,6 +143,12 @@ module _ (head : List ℕ) (h : Head) (says : Says head h) (serials seconds rows
   unfolding shown sizeOf acceptedOf
   shown-is p a b = ap (λ (r : Recovery). shown r p a b) in-memory
 
+  -- ---- listing
+
+  listed-is : (out : List ℕ) → listedAt h rows out ≡ listedOf (recoveryIn head serials seconds rows) out
+  unfolding listedOf sizeOf acceptedOf
+  listed-is out = ap (λ (r : Recovery). listedOf r out) in-memory
+
   -- ---- the place of a serial
 
   pub found-is : (x : ℕ) (e : FoundNow) (f : Finding) → e ≡ foundOf f → f ≡ foundAmong (h .count) serials seconds x → e ≡ foundOf (foundIn (recoveryIn head serials seconds rows) x)
@@ -164,6 +175,17 @@ module _ (head : List ℕ) (h : Head) (says : Says head h) (serials seconds rows
     gives-refused j e =
         let g : gaveAs parts p x (Y.Refused j) ≡ given (recoveryIn head serials seconds rows) p x = ap (gaveAs parts p x) (sym e) ∙ given-is in
         (ap (λ (w : Gave). givingCode (w .answer)) g, ap (λ (w : Gave). w .recovery .seconds) g)
+
+-- the number and the buffer
+pub lists-are : (head : List ℕ) (h : Head) → Says head h → (rows out : List ℕ) (x : Listing) (c : ℕ) (after : List ℕ) → c ≡ listingCode x
+    → (x ≡ listedAt h rows out .answer) × (after ≡ listedAt h rows out .buffer)
+    → ((serials seconds : List ℕ) → c ≡ listingCode (listedOf (recoveryIn head serials seconds rows) out .answer))
+    × ((serials seconds : List ℕ) → after ≡ listedOf (recoveryIn head serials seconds rows) out .buffer)
+lists-are head h says rows out x c after code (e, f) =
+    (λ t u. code ∙ ap listingCode (e ∙ ap (λ (w : ListedAll). w .answer) (is t u)), λ t u. f ∙ ap (λ (w : ListedAll). w .buffer) (is t u))
+  where
+    is : (t u : List ℕ) → listedAt h rows out ≡ listedOf (recoveryIn head t u rows) out
+    is t u = listed-is head h says t u rows out
 
 -- the number and both buffers
 pub shows-are : (head : List ℕ) (h : Head) → Says head h → (rows : List ℕ) (p : ℕ) (a b : List ℕ) (x : Showing) (c : ℕ) (first second : List ℕ) → c ≡ showingCode x

@@ -31,6 +31,8 @@ use Rattle.recovery.specs.declared.Asked.{Asked}
 use Rattle.recovery.specs.declared.Asked.the-variants as A
 use Rattle.shows.specs.declared.Showing.{Showing}
 use Rattle.shows.specs.declared.Showing.the-variants as S
+use Rattle.lists.specs.declared.Listing.{Listing}
+use Rattle.lists.specs.declared.Listing.the-variants as I
 use Rattle.recovery.specs.declared.Checked.{Checked}
 use Rattle.recovery.specs.declared.Checked.the-variants as C
 use Rattle.recovery.specs.Contracts.{opened, offered}
@@ -126,6 +128,10 @@ unfoldable pub showingCode : Showing → ℕ
 showingCode S.Shown = 0
 showingCode S.Decided = 36
 showingCode (S.Refused j) = j
+
+unfoldable pub listingCode : Listing → ℕ
+listingCode I.Laid = 0
+listingCode (I.Refused j) = j
 
 unfoldable pub checkedCode : Checked → ℕ
 checkedCode C.Fits = 37

@@ -13,15 +13,16 @@ ghost use Rattle.places.specs.PlaceSets.{has};
 ghost use Rattle.rosters.specs.Seconds.{countsAs};
 ghost use Rattle.records.specs.Layout.{kindByte};
 ghost use Rattle.records.specs.Records.{reading, readingLone, rosterIs, copiable, copied};
-ghost use Rattle.recovery.specs.Contracts.{keepingFull, keepingRow, keeping, answered, asked, shown, checked, settledOf, unmournedOf, unmournedAbsentOf, unmournedCountOf, foundIn, given, writtenOf};
+ghost use Rattle.recovery.specs.Contracts.{keepingFull, keepingRow, keeping, answered, asked, shown, checked, settledOf, unmournedOf, unmournedAbsentOf, unmournedCountOf, foundIn, given, writtenOf, listedOf};
 ghost use Rattle.executions.specs.Contracts as days;
-ghost use Rattle.capi.specs.Boundary.{kindIn, stoppedIn, recoveryIn, dayIn, setAt, setWords, headWords, headOf, eventOf, dayHeadOf, withStopped, openedHeld, begunHeld, offeredHeld, happenedHeld, dayOf, dayNow, playedNow, steppedNow, replyCode, askedCode, showingCode, checkedCode, yesCode, foundOf, givingCode, endOf, wordsOf, readCode, readWords, writtenParts};
+ghost use Rattle.capi.specs.Boundary.{kindIn, stoppedIn, recoveryIn, dayIn, setAt, setWords, headWords, headOf, eventOf, dayHeadOf, withStopped, openedHeld, begunHeld, offeredHeld, happenedHeld, dayOf, dayNow, playedNow, steppedNow, replyCode, askedCode, showingCode, listingCode, checkedCode, yesCode, foundOf, givingCode, endOf, wordsOf, readCode, readWords, writtenParts};
 use answers::Answer;
 use executions::Day;
 use executions::Event;
 use executions::Played;
 use groups::Giving;
 use histories::Kind;
+use lists::Listing;
 use places::Place;
 use places::PlaceSet;
 use records::Reading;
@@ -213,6 +214,16 @@ fn yes_code(b: bool) -> u8
         return 1;
     }
     0
+}
+
+// The number of an answer to listing.
+fn listing_code(answer: Listing) -> u8
+    ensures { λ r. ⌜ r ≡ listingCode answer ⌝ }
+{
+    match answer {
+        Listing::Laid => 0,
+        Listing::Refused(fault) => fault,
+    }
 }
 
 fn found_now(found: Finding) -> FoundNow
@@ -417,6 +428,21 @@ pub extern "C" fn gm_ask(head: &[u64; 9], rows: &[u8; 2048], place: usize) -> u8
         Answer::NotLast => 34,
         Answer::Open => 35,
     }
+}
+
+// Lists the answers of all places, one byte each: 13, or 0 and laid down. Whatever the serials are.
+#[no_mangle]
+pub extern "C" fn gm_list(head: &[u64; 9], rows: &[u8; 2048], out: &mut [u8]) -> u8
+    ensures { λ r. ⌜ ((serials seconds : List ℕ) → r ≡ listingCode (listedOf (recoveryIn (now (head .entry)) serials seconds (now (rows .entry))) (now (out .entry)) .answer)) ⌝ }
+    ensures { λ r. ⌜ ((serials seconds : List ℕ) → now (out .exit) ≡ listedOf (recoveryIn (now (head .entry)) serials seconds (now (rows .entry))) (now (out .entry)) .buffer) ⌝ }
+{
+    let h = read_head(head);
+    let returned = h.returned;
+    let full = h.full;
+    let mourned = h.mourned;
+    let earlier = h.earlier;
+    let answer = lists::list(rows, returned, full, mourned, earlier, h.count, out);
+    listing_code(answer)
 }
 
 // Whether no place is open: 1 or 0. Whatever the serials are.

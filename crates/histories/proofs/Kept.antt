@@ -5,19 +5,27 @@ use mathlib.Core.Logic.{_⊎_, inl, inr}
 use Prim.Native.Nat.{ℕ, _<_}
 use lib.Dec.{eqb}
 use borrow.Author.Tests.{eqb-true}
-use Rattle.places.specs.Sets.{below, only, union, with, difference, any}
+use Rattle.places.specs.Sets.{below, only, union, intersection, with, difference, any}
 use Rattle.places.proofs.Booleans.{clash, is-false, both-ways, and-intro, or-cases, or-left, or-right}
 use Rattle.histories.specs.declared.Kind.{Kind}
 use Rattle.histories.specs.declared.Kind.the-variants.{Full, Short}
-use Rattle.histories.specs.Histories.{Row, History, Before, heard, Accepted, lay, Fits}
+use Rattle.histories.specs.Histories.{Row, History, Before, heard, through, Accepted, lay, Fits}
 use Rattle.histories.specs.Rule.{Answer, recorded, mourned, before, isFull, fullBack, beforeFull, blockers, answerWith, answer, noneOpen, settled}
 use Rattle.histories.specs.Kept.{ruledOutBy, blockersBy, answerBy, settledBy}
-use Rattle.histories.proofs.Exact.{recorded-returned, recorded-fits, full-kind, full-back-elim, full-back-intro, before-in, before-out, before-full-in, before-full-out}
+use Rattle.histories.proofs.Exact.{recorded-returned, recorded-fits, mourned-intro, full-kind, full-back-elim, full-back-intro, before-in, before-out, before-full-in, before-full-out}
 use Rattle.histories.proofs.Accepts.{Laid, laid-cases, laid-new, laid-old, laid-kind, laid-back, laid-full-cases, laid-full-old}
 use Rattle.histories.proofs.Fewer.{within-lay, fits-fewer}
 
 module _ {n : ℕ} {A : Accepted} {H : History} (f : Fits n A H) where
-  pub blockers-kept : (i : ℕ) → blockersBy n A (beforeFull n A) i ≡ blockers n A i
+  -- what is before a place stands in a recorded row
+  before-mourned : (i q : ℕ) → before n A i q ≡ true → mourned n A q ≡ true
+  before-mourned i q e = named (before-out n A i q e)
+    where
+      named : {q p : ℕ} → Before (recorded A) q p → mourned n A q ≡ true
+      named (heard {q = q} {p = p} e) = mourned-intro f p q e
+      named (through {q = q} {m = m} e b) = mourned-intro f m q e
+
+  pub blockers-kept : (i : ℕ) → blockersBy n A (mourned n A) (beforeFull n A) i ≡ blockers n A i
   unfolding blockersBy blockers ruledOutBy
   blockers-kept i = fun-ext (λ q. go q (fullBack A i) refl)
     where
@@ -37,16 +45,18 @@ module _ {n : ℕ} {A : Accepted} {H : History} (f : Fits n A H) where
           both false = refl
       one true x false h = sym (ap (λ (b : Bool). not b && true) (h refl))
 
-      two : (d x y : Bool) → d && not (y || x) ≡ d && not x && not y
-      two false x y = refl
-      two true true true = refl
-      two true true false = refl
-      two true false true = refl
-      two true false false = refl
+      two : (d x y m : Bool) → (x ≡ true → m ≡ true) → d && not (y || m && x) ≡ d && not x && not y
+      two false x y m h = refl
+      two true true true m h = refl
+      two true true false m h = ap (λ (b : Bool). not (b && true)) (h refl)
+      two true false true m h = refl
+      two true false false true h = refl
+      two true false false false h = refl
 
-      go : (q : ℕ) (t : Bool) → fullBack A i ≡ t → D q && not (cond t (beforeFull n A) (union (beforeFull n A) (before n A i)) q) ≡ D q && not (before n A i q) && not (beforeFull n A q)
+      go : (q : ℕ) (t : Bool) → fullBack A i ≡ t
+          → D q && not (cond t (beforeFull n A) (union (beforeFull n A) (intersection (mourned n A) (before n A i))) q) ≡ D q && not (before n A i q) && not (beforeFull n A q)
       go q true b = one (D q) (before n A i q) (beforeFull n A q) (within b q)
-      go q false b = two (D q) (before n A i q) (beforeFull n A q)
+      go q false b = two (D q) (before n A i q) (beforeFull n A q) (mourned n A q) (before-mourned i q)
 
   pub answer-kept : (i : ℕ) → answerBy n A (mourned n A) (beforeFull n A) i ≡ answer n A i
   unfolding answerBy answer

@@ -12,6 +12,7 @@ mod families;
 mod givings;
 mod group;
 mod laid;
+mod listings;
 mod matrices;
 mod outcomes;
 mod parts;

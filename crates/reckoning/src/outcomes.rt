@@ -36,6 +36,8 @@ pub const HIGH: u64 = 1000012;
 
 pub const GIVEN: u64 = 1000013;
 
+pub const LISTED: u64 = 1000014;
+
 // A place found by its second serial is this and the place.
 pub const SECOND: u64 = 1001000;
 
@@ -55,6 +57,7 @@ pub fn write(x: u64) {
         1000011 => say::text(b"nothing"),
         1000012 => say::text(b"places from 64 on"),
         1000013 => say::text(b"given"),
+        1000014 => say::text(b"listed"),
         1001000..=1001127 => {
             say::text(b"second of place ");
             say::number(std::num::wrapping_sub_u64(x, SECOND));

@@ -1,6 +1,7 @@
 // A recovery beside its pile: records offered in an order, each outcome held to the pile's, and then the answers.
 use crate::cases;
 use crate::cases::Case;
+use crate::listings;
 use crate::matrices;
 use crate::matrices::Pile;
 use crate::outcomes;
@@ -148,7 +149,7 @@ fn settled(c: Case, r: Recovery, t: Tally, expected: bool) -> Tally {
     cases::held(t, c, b"settled", 0, whole, outcomes::truth(got))
 }
 
-// Every answer of a group: the sets, whether the whole is settled, and each place.
+// Every answer of a group: the sets, whether the whole is settled, each place, and all in one list.
 pub fn answers(list: &[u32], c: Case, g: Group) -> Tally {
     let r = g.recovery;
     let pile = g.pile;
@@ -164,7 +165,8 @@ pub fn answers(list: &[u32], c: Case, g: Group) -> Tally {
     let t = ask(c, r, t, 0, of_0);
     let t = ask(c, r, t, 1, of_1);
     let t = ask(c, r, t, 2, of_2);
-    ask(c, r, t, 3, of_3)
+    let t = ask(c, r, t, 3, of_3);
+    listings::lists(c, r, t, [of_0, of_1, of_2, of_3])
 }
 
 // A case from its opening on.

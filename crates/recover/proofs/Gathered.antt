@@ -1,11 +1,11 @@
 -- A line is laid whole where there is room. Assumes nothing.
-use mathlib.Core.Path.{_≡_, ap, _∙_}
+use mathlib.Core.Path.{_≡_, refl, ap, _∙_, subst}
 use mathlib.Core.Logic.{_⊎_}
 use mathlib.Core.List.{List}
-use Prim.Native.Nat.{ℕ, _+_, _≤_}
+use Prim.Native.Nat.{ℕ, _+_, _<_, _≤_}
 use native.Mathlib.Omega.{arith}
-use lib.ListN.{length, length-append}
-use borrow.Author.Tests.{le-leb}
+use lib.ListN.{length, getD, length-append}
+use borrow.Author.Tests.{le-leb, ne-eqb}
 use Rattle.records.specs.declared.Writing.{Writing}
 use Rattle.records.specs.declared.Writing.the-variants as W
 use Rattle.records.specs.Records.{writtenAt}
@@ -13,9 +13,13 @@ use Rattle.replies.specs.declared.Reply.{Reply}
 use Rattle.replies.specs.declared.Reply.the-variants as O
 use Rattle.recovery.specs.declared.Asked.{Asked}
 use Rattle.recovery.specs.declared.Asked.the-variants as A
+use Rattle.recovery.specs.declared.Recovery.{Recovery}
+use Rattle.recovery.specs.Contracts.{sizeOf, asked, listedOf, AskedByte, not-byte, last-byte, open-byte}
+use Rattle.recovery.proofs.Keeps.{size-few}
+use Rattle.recovery.proofs.Lists.{each-as-asked}
 use Rattle.lines.specs.Lines.{ascii, offerWords, recordLine, answerWords, placeLine}
 use Rattle.lines.proofs.Laws.{length-decimal, length-line}
-use Rattle.recover.specs.Gathered.{endOf, Said}
+use Rattle.recover.specs.Gathered.{answerIn, endOf, Said}
 
 -- 64 bytes hold a line, whatever its numbers are
 words-short : (o : Reply) → length (offerWords o) ≤ 28
@@ -50,3 +54,32 @@ said line i used from before after w end h s a b e =
     let n : w ≡ W.Next (from + length line) = a ∙ rw f in
     let g : end ≡ from + length line = e ∙ ap endOf n in
     record { from = from; start = s; ends = g; inside = omega arith; laid = b ∙ rw f }
+
+-- ---- the byte of a place in the list of all
+
+pub says-not : (b : ℕ) → b ≡ 0 → A.NotLast ≡ answerIn b
+unfolding answerIn
+says-not b e = rw e
+
+pub says-last : (b : ℕ) → b ≡ 1 → A.Last ≡ answerIn b
+unfolding answerIn
+says-last b e = rw e
+
+pub says-open : (b : ℕ) → ¬ (b ≡ 0) → ¬ (b ≡ 1) → A.Open ≡ answerIn b
+unfolding answerIn
+says-open b x y = rw (ne-eqb b 0 x, ne-eqb b 1 y)
+
+-- it says what asking says
+listed-says : {a : Asked} {b : ℕ} → AskedByte a b → answerIn b ≡ a
+unfolding answerIn
+listed-says not-byte = refl
+listed-says last-byte = refl
+listed-says open-byte = refl
+
+-- so its line is the one that asking gives
+pub line-says : (serial : ℕ) (b : ℕ) {used end : ℕ} {old new : List ℕ} {x a : Asked} → x ≡ answerIn b → AskedByte a b → Said (placeLine serial x) used old new end → Said (placeLine serial a) used old new end
+line-says serial b {used} {end} {old} {new} e h s = subst (λ (y : Asked). Said (placeLine serial y) used old new end) (e ∙ listed-says h) s
+
+-- in a list of all places, each byte is that of its place
+pub each-says : (r : Recovery) (out listed : List ℕ) → length out ≡ 128 → listed ≡ listedOf r out .buffer → (p : ℕ) → p < sizeOf r → AskedByte (asked r p) (getD listed p 0)
+each-says r out listed l e p h = rw e (each-as-asked r out (omega (arith, l, size-few r)) p h)

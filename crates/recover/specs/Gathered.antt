@@ -1,12 +1,20 @@
 -- Lines gathered in a buffer. Assumes nothing.
 use mathlib.Core.Path.{_≡_}
 use mathlib.Core.Logic.{_⊎_}
+use mathlib.Core.Bool.{cond}
 use mathlib.Core.List.{List}
 use Prim.Native.Nat.{ℕ, _+_, _≤_}
 use lib.ListN.{length}
+use lib.Dec.{eqb}
 use Rattle.records.specs.declared.Writing.{Writing}
 use Rattle.records.specs.declared.Writing.the-variants as W
 use Rattle.records.specs.Records.{putAt}
+use Rattle.recovery.specs.declared.Asked.{Asked}
+use Rattle.recovery.specs.declared.Asked.the-variants as A
+
+-- what asking says, by the byte in a list of all places: document 02, [4]
+unfoldable pub answerIn : ℕ → Asked
+answerIn b = cond (eqb b 0) A.NotLast (cond (eqb b 1) A.Last A.Open)
 
 -- where a line that was laid ends
 unfoldable pub endOf : Writing → ℕ

@@ -1,10 +1,46 @@
 // What a recovery says when the reading is over.
-ghost use Prim.Native.Nat.{_≤_};
-ghost use lib.ListN.{length};
+ghost use mathlib.Core.Path.{_≡_};
+ghost use Prim.Native.Nat.{_≤_, _<_};
+ghost use lib.ListN.{length, getD};
+ghost use Rattle.recovery.specs.Contracts.{AskedByte};
+ghost use Rattle.recovery.specs.declared.Asked as declared;
+ghost use Rattle.lines.specs.Lines.{placeLine};
+ghost use Rattle.recover.specs.Gathered.{answerIn, Said};
 use crate::output;
-use places::Place;
+use recovery::Asked;
 use recovery::Recovery;
 use rosters::Serial;
+
+// What asking says of a place, by its byte in the list.
+fn answer_of(byte: u8) -> Asked
+    ensures { λ a. ⌜ a ≡ answerIn byte ⌝ }
+{
+    if byte == 0 {
+        return Asked::NotLast;
+    }
+    if byte == 1 {
+        return Asked::Last;
+    }
+    Asked::Open
+}
+
+// The line of a place: whatever answer its byte in the list is of, the line says that.
+fn list_place(
+    out: &mut [u8],
+    used: usize,
+    serials: &[u32; 128],
+    listed: &[u8; 128],
+    p: usize,
+) -> usize
+    requires { ⌜ used ≤ length (now out) ⌝ }
+    requires { ⌜ 64 ≤ length (now out) ⌝ }
+    requires { ⌜ p < 128 ⌝ }
+    ensures { λ end. ⌜ ((a : declared.Asked) → AskedByte a (getD (now (listed .entry)) p 0) → Said (placeLine (getD (now (serials .entry)) p 0) a) used (now (out .entry)) (now (out .exit)) end) ⌝ }
+{
+    let serial = Serial(serials[p]);
+    let answer = answer_of(listed[p]);
+    output::say_place(out, used, serial, answer)
+}
 
 // A line for each place.
 fn list_places(out: &mut [u8], used: usize, r: Recovery) -> usize
@@ -12,13 +48,14 @@ fn list_places(out: &mut [u8], used: usize, r: Recovery) -> usize
     requires { ⌜ 64 ≤ length (now out) ⌝ }
     ensures { λ end. ⌜ end ≤ length (now (out .entry)) ⌝ }
 {
+    let mut listed = [0u8; 128];
+    recovery::list(r, &mut listed);
+    let serials = r.serials;
     let count = answers::size(r.count);
     let mut end = used;
     let mut p = 0;
     while p < count {
-        let serial = Serial(r.serials[p]);
-        let answer = recovery::ask(r, Place(p));
-        end = output::say_place(out, end, serial, answer);
+        end = list_place(out, end, &serials, &listed, p);
         p += 1;
     }
     end

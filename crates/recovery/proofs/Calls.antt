@@ -28,13 +28,17 @@ use Rattle.recovery.specs.declared.Asked.the-variants as A
 use Rattle.shows.specs.declared.Showing.the-variants as S
 use Rattle.shows.specs.Shows.{unshown, replaced, shownIn}
 use Rattle.shows.proofs.Cases as case
+use Rattle.lists.specs.declared.Listing.the-variants as I
+use Rattle.lists.specs.Lists as listing
+use Rattle.lists.specs.Lists.{answerByte, listedIn}
+use Rattle.lists.proofs.Laws as lists
 use Rattle.recovery.specs.declared.Checked.the-variants as C
 use Rattle.checks.specs.Checks.{offRoster}
 use Rattle.groups.specs.declared.Giving.{Giving}
 use Rattle.groups.specs.declared.Giving.the-variants as Y
 use Rattle.groups.specs.Groups.{aliasIn, foundAmong, isFound, giving}
 use Rattle.groups.proofs.Laws.{give-off, give-zero, give-known, give-has, give-new}
-use Rattle.recovery.specs.Contracts.{sizeOf, rosterOf, secondsOf, aliasOf, acceptedOf, ofGroup, saying, keeping, answered, entered, judged, offeredAs, offered, answerAt, askedAs, asked, shown, checkedRows, checked, settledOf, unmournedOf, foundIn, withSecond, gaveAs, given, recordOf, writtenOf}
+use Rattle.recovery.specs.Contracts.{sizeOf, rosterOf, secondsOf, aliasOf, acceptedOf, ofGroup, saying, keeping, answered, entered, judged, offeredAs, offered, answerAt, askedAs, asked, shown, checkedRows, checked, settledOf, unmournedOf, foundIn, withSecond, gaveAs, given, recordOf, writtenOf, listedOf}
 use Rattle.recovery.proofs.Facts.{same-list-self}
 
 -- ---- offering
@@ -108,6 +112,20 @@ module _ (r : Recovery) {n : ℕ} (is : sizeOf r ≡ n) where
   asked-is i a l e =
       ap₂ (λ (m : ℕ) (a : Answer). cond (ltb i m) (askedAs a) (A.Refused 12)) is (answer-is i ∙ e) ∙ ap (λ (b : Bool). cond b (askedAs a) (A.Refused 12)) (lt-ltb i n l)
 
+  -- ---- listing
+
+  module _ (out : List ℕ) where
+    listed-is : listedOf r out ≡ listedIn n (acceptedOf r) (has (r .mourned)) (has (r .earlier)) out
+    unfolding listedOf
+    listed-is = ap (λ (m : ℕ). listedIn m (acceptedOf r) (has (r .mourned)) (has (r .earlier)) out) is
+
+    pub listed-short : length out < n → listedOf r out ≡ record { answer = I.Refused 13; buffer = out }
+    listed-short l = listed-is ∙ lists.listed-short n (acceptedOf r) (has (r .mourned)) (has (r .earlier)) out l
+
+    pub listed-laid : n ≤ length out
+        → listedOf r out ≡ record { answer = I.Laid; buffer = listing.laid n (λ i. answerByte (answerBy n (acceptedOf r) (has (r .mourned)) (has (r .earlier)) i)) out }
+    listed-laid l = listed-is ∙ lists.listed-laid n (acceptedOf r) (has (r .mourned)) (has (r .earlier)) out l
+
   -- ---- showing
 
   module _ (i : ℕ) (a b : List ℕ) where
@@ -129,7 +147,7 @@ module _ (r : Recovery) {n : ℕ} (is : sizeOf r ≡ n) where
       shown-short s = shown-is ∙ case.shown-short n (acceptedOf r) (has (r .mourned)) (has (r .earlier)) (rowsOf (r .rows)) i a b l e s
 
       pub shown-both : 16 * n ≤ length a → 16 * n ≤ length b
-          → shown r i a b ≡ record { answer = S.Shown; first = laid n (rowsOf (r .rows)) a; second = laid n (replaced (rowsOf (r .rows)) (lowest n (blockersBy n (acceptedOf r) (has (r .earlier)) i)) (with i (before n (acceptedOf r) i))) b }
+          → shown r i a b ≡ record { answer = S.Shown; first = laid n (rowsOf (r .rows)) a; second = laid n (replaced (rowsOf (r .rows)) (lowest n (blockersBy n (acceptedOf r) (has (r .mourned)) (has (r .earlier)) i)) (with i (before n (acceptedOf r) i))) b }
       shown-both u v = shown-is ∙ case.shown-both n (acceptedOf r) (has (r .mourned)) (has (r .earlier)) (rowsOf (r .rows)) i a b l e u v
 
   -- ---- checking a lent history

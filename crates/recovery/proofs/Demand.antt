@@ -37,11 +37,15 @@ use Rattle.recovery.specs.declared.Offered.{Offered}
 use Rattle.recovery.specs.declared.Gave.{Gave}
 use Rattle.checks.specs.Checks.{offRoster}
 use Rattle.shows.specs.Shows.{unshown}
+use Rattle.lists.specs.Lists.{answerByte}
+use Rattle.lists.specs.Lists as listing
+use Rattle.lists.proofs.Laws as lists
+use Rattle.lists.proofs.Laying as laying
 use Rattle.replies.specs.Replies.{sameKind}
-use Rattle.recovery.specs.Contracts.{sizeOf, rosterOf, secondsOf, aliasOf, acceptedOf, holding, fresh, opened, ofGroup, saying, keeping, entered, offered, askedAs, asked, shown, checked, settledOf, unmournedOf, unmournedAbsentOf, unmournedCountOf, foundIn, withSecond, given, recordOf, writtenOf}
+use Rattle.recovery.specs.Contracts.{sizeOf, rosterOf, secondsOf, aliasOf, acceptedOf, holding, fresh, opened, ofGroup, saying, keeping, entered, offered, askedAs, asked, shown, checked, settledOf, unmournedOf, unmournedAbsentOf, unmournedCountOf, foundIn, withSecond, given, recordOf, writtenOf, listedOf}
 use Rattle.recovery.specs.Demand as D
-use Rattle.recovery.specs.Demand.{Free, Call, offer, ask, show, check, whole, unmourned, unmourned-absent, unmourned-count, find, give, write, Ledger, begun, KnownSerial, AreSeconds, says, lent-one, places, number, OfGroup, SameRecord, Holds, recordIn, Dictates, faulty, foreign, repeats, differs, takes, none-fits, asked-off, asked-last, asked-not, asked-open, showed-off, showed-decided, showed-short, showed, checked-short, checked-off, checked-fits, checked-not, whole-settled, whole-open, gave-unmourned, gave-absent, gave-count, found-first, found-second, found-none, gave-off, gave-zero, gave-known, gave, wrote-off, wrote-absent, wrote-short, wrote, Whole, end, then}
-use Rattle.recovery.specs.Run.{offerSays, askedSays, showingSays, checkedSays, writingSays, foundSays, givingSays, shownGives, writtenGives, outcome, next, run, ledgerOf, left}
+use Rattle.recovery.specs.Demand.{Free, Call, offer, ask, show, check, whole, unmourned, unmourned-absent, unmourned-count, find, give, write, list, Ledger, begun, KnownSerial, AreSeconds, says, lent-one, places, number, OfGroup, SameRecord, Holds, recordIn, ByteOf, byte-not, byte-last, byte-open, Dictates, faulty, foreign, repeats, differs, takes, none-fits, asked-off, asked-last, asked-not, asked-open, showed-off, showed-decided, showed-short, showed, checked-short, checked-off, checked-fits, checked-not, whole-settled, whole-open, gave-unmourned, gave-absent, gave-count, found-first, found-second, found-none, gave-off, gave-zero, gave-known, gave, wrote-off, wrote-absent, wrote-short, wrote, listed-short, listed-all, Whole, end, then}
+use Rattle.recovery.specs.Run.{offerSays, askedSays, showingSays, checkedSays, writingSays, foundSays, givingSays, listingSays, shownGives, writtenGives, listedGives, outcome, next, run, ledgerOf, left}
 use Rattle.recovery.proofs.Opens.{opened-free}
 use Rattle.recovery.proofs.Keeps.{row-on, fresh-accepted, fresh-seconds, fresh-holds, kept-accepted, Held, held-size, held-roster, held-table, not-full, kept-seconds, keeping-holds, second-given, second-holds, kept-answer, kept-settled, kept-shown, kept-unmourned, kept-absent, kept-count}
 use Rattle.recovery.proofs.Swaps.{Standing, as-first, as-second, unknown, standing, seconds-none, seconds-noted}
@@ -428,6 +432,30 @@ module _ {roster : List ℕ} {r : Recovery} (g : Good roster r) where
       go (yes l) = on l (split (acceptedOf r .returned p))
       go (no l) = let m : n ≤ p = omega arith in rw (call.written-off r (is-size g) p out at m) (wrote-off m)
 
+  -- ---- listing every place
+
+  list-step : (out : List ℕ) → Dictates roster (ledgerOf r) (list out) (listedGives (listedOf r out)) (ledgerOf r)
+  unfolding listedGives listingSays answerByte
+  list-step out = go (decLt (length out) n)
+    where
+      n : ℕ
+      n = length roster
+
+      byte : ℕ → ℕ
+      byte i = answerByte (answerBy n (acceptedOf r) (has (r .mourned)) (has (r .earlier)) i)
+
+      byte-is : (i : ℕ) → i < n → (a : Answer) → answer n (acceptedOf r) i ≡ a → ByteOf n (acceptedOf r) i (answerByte a)
+      byte-is i l is-last e = byte-last (exact (g .fits) i l .last-iff .0 e)
+      byte-is i l not-last e = byte-not (exact (g .fits) i l .not-iff .0 e)
+      byte-is i l is-open e = byte-open (exact (g .fits) i l .shown e)
+
+      each : (i : ℕ) → i < n → ByteOf n (acceptedOf r) i (getD (listing.laid n byte out) i 0)
+      each i l = subst (ByteOf n (acceptedOf r) i) (sym (lists.laid-byte n byte out i l ∙ ap answerByte (by i refl))) (byte-is i l (answer n (acceptedOf r) i) refl)
+
+      go : Dec (length out < n) → Dictates roster (ledgerOf r) (list out) (listedGives (listedOf r out)) (ledgerOf r)
+      go (yes l) = rw (call.listed-short r (is-size g) out l) (listed-short l)
+      go (no l) = let m : n ≤ length out = omega arith in rw (call.listed-laid r (is-size g) out m) (listed-all m (laying.laid-length n byte out m) (lists.laid-rest n byte out) each)
+
   -- ---- any call
 
   both-step : (c : Call) → Dictates roster (ledgerOf r) c (outcome r c) (ledgerOf (next r c)) × Good roster (next r c)
@@ -443,6 +471,7 @@ module _ {roster : List ℕ} {r : Recovery} (g : Good roster r) where
   both-step (find x) = (find-step x, g)
   both-step (give p x) = give-step p x
   both-step (write p out at) = (write-step p out at, g)
+  both-step (list out) = (list-step out, g)
 
   -- a single call has the outcome that is dictated
   pub step : (c : Call) → Dictates roster (ledgerOf r) c (outcome r c) (ledgerOf (next r c))

@@ -20,7 +20,7 @@ use Rattle.records.specs.Layout as L
 use Rattle.recovery.specs.declared.Recovery.{Recovery}
 use Rattle.recovery.specs.Contracts.{acceptedOf}
 use Rattle.recovery.specs.Demand as D
-use Rattle.recovery.specs.Demand.{Ledger, Call, offer, ask, show, whole, Outcome, says, lent, OfGroup, Dictates, faulty, foreign, repeats, differs, takes, none-fits, asked-off, asked-last, asked-not, asked-open, showed-off, showed-decided, showed-short, showed, checked-short, checked-off, checked-fits, checked-not, whole-settled, whole-open, gave-unmourned, gave-absent, gave-count, found-first, found-second, found-none, gave-off, gave-zero, gave-known, gave, wrote-off, wrote-absent, wrote-short, wrote}
+use Rattle.recovery.specs.Demand.{Ledger, Call, offer, ask, show, whole, Outcome, says, lent, OfGroup, Dictates, faulty, foreign, repeats, differs, takes, none-fits, asked-off, asked-last, asked-not, asked-open, showed-off, showed-decided, showed-short, showed, checked-short, checked-off, checked-fits, checked-not, whole-settled, whole-open, gave-unmourned, gave-absent, gave-count, found-first, found-second, found-none, gave-off, gave-zero, gave-known, gave, wrote-off, wrote-absent, wrote-short, wrote, listed-short, listed-all}
 use Rattle.recovery.specs.Run.{left}
 use Rattle.recovery.proofs.Demand.{Good, step, good-next}
 use Rattle.recovery.proofs.Single.{read-clash, same-record}
@@ -62,6 +62,8 @@ grows (wrote-off a) = within-self
 grows (wrote-absent a b) = within-self
 grows (wrote-short a b d) = within-self
 grows (wrote a b d f m n q) = within-self
+grows (listed-short a) = within-self
+grows (listed-all a b d f) = within-self
 
 -- and so do the second serials, whatever record is offered
 pub offers-none : {roster : List ℕ} {A B : Ledger} {bytes : List ℕ} {o : Outcome} → Dictates roster A (offer bytes) o B → B .seconds ≡ A .seconds

@@ -343,10 +343,10 @@ module _ {roster : List ℕ} {r : Recovery} (h : Held roster r) where
     pub kept-settled : settledBy n (acceptedOf r) (has (r .mourned)) (has (r .earlier)) ≡ settled n (acceptedOf r)
     kept-settled = ap₂ (settledBy n (acceptedOf r)) held-mourned held-earlier ∙ settled-kept f
 
-    kept-second : (i : ℕ) → replaced (rowsOf (r .rows)) (lowest n (blockersBy n (acceptedOf r) (has (r .earlier)) i)) (with i (before n (acceptedOf r) i)) ≡ second n (acceptedOf r) i
+    kept-second : (i : ℕ) → replaced (rowsOf (r .rows)) (lowest n (blockersBy n (acceptedOf r) (has (r .mourned)) (has (r .earlier)) i)) (with i (before n (acceptedOf r) i)) ≡ second n (acceptedOf r) i
     unfolding replaced second grown
     kept-second i =
-        ap₂ (λ (H : History) (S : Row). replaced H (lowest n S) (with i (before n (acceptedOf r) i))) held-rows (ap (λ (F : Row). blockersBy n (acceptedOf r) F i) held-earlier ∙ blockers-kept f i)
+        ap₂ (λ (H : History) (S : Row). replaced H (lowest n S) (with i (before n (acceptedOf r) i))) held-rows (ap₂ (λ (M F : Row). blockersBy n (acceptedOf r) M F i) held-mourned held-earlier ∙ blockers-kept f i)
 
     pub kept-shown : (i : ℕ) (a b : List ℕ) → i < n → answer n (acceptedOf r) i ≡ is-open → 16 * n ≤ length a → 16 * n ≤ length b
         → shown r i a b ≡ record { answer = S.Shown; first = laid n (recorded (acceptedOf r)) a; second = laid n (second n (acceptedOf r) i) b }

@@ -3,10 +3,11 @@ use mathlib.Core.Path.{_≡_, refl, sym, ap, ap₂, _∙_, subst, fun-ext}
 use mathlib.Core.Bool.{Bool, true, false, cond}
 use mathlib.Core.Logic.{_⊎_, inl, inr, _↔_}
 use mathlib.Core.List.{List, [], _∷_, _++_, map}
-use Prim.Native.Nat.{ℕ, _+_, _*_, _<_, _≤_}
+use Prim.Native.Nat.{ℕ, _+_, _-_, _*_, _<_, _≤_}
 use native.Mathlib.Omega.{arith}
 use native.Mathlib.Decide.{decLt}
 use lib.ListN.{length, getD, take, drop, take-append-drop}
+use lib.Seq.{getD-drop, ext-getD}
 use Rattle.places.specs.Sets.{count}
 use Rattle.places.proofs.Booleans.{clash, both-ways}
 use Rattle.histories.specs.Histories.{Row, History, Accepted, lay, Fits, Disagree, Decided}
@@ -18,7 +19,7 @@ use Rattle.records.specs.Layout as L
 use Rattle.records.proofs.Layouts.{AllBytes, bytes-drop}
 use Rattle.records.proofs.Trips.{layout-read}
 use Rattle.recovery.specs.Demand as D
-use Rattle.recovery.specs.Demand.{Said, refused, Call, Ledger, begun, KnownSerial, AreSeconds, Outcome, says, lent, lent-one, places, number, OfGroup, SameRecord, Unmourned, recordIn, endIn, Dictates, faulty, foreign, repeats, differs, takes, none-fits, asked-off, asked-last, asked-not, asked-open, showed-off, showed-decided, showed-short, showed, checked-short, checked-off, checked-fits, checked-not, whole-settled, whole-open, gave-unmourned, gave-absent, gave-count, found-first, found-second, found-none, gave-off, gave-zero, gave-known, gave, wrote-off, wrote-absent, wrote-short, wrote, Whole, end, then}
+use Rattle.recovery.specs.Demand.{Said, refused, Call, Ledger, begun, KnownSerial, AreSeconds, Outcome, says, lent, lent-one, places, number, OfGroup, SameRecord, Unmourned, recordIn, endIn, ByteOf, byte-not, byte-last, byte-open, Dictates, faulty, foreign, repeats, differs, takes, none-fits, asked-off, asked-last, asked-not, asked-open, showed-off, showed-decided, showed-short, showed, checked-short, checked-off, checked-fits, checked-not, whole-settled, whole-open, gave-unmourned, gave-absent, gave-count, found-first, found-second, found-none, gave-off, gave-zero, gave-known, gave, wrote-off, wrote-absent, wrote-short, wrote, listed-short, listed-all, Whole, end, then}
 use Rattle.recovery.proofs.Swaps.{seconds-none, seconds-noted}
 
 -- ---- outcomes
@@ -38,6 +39,7 @@ showing D.settled = false
 showing D.unsettled = false
 showing D.given = false
 showing D.not-found = false
+showing D.listed = false
 showing (D.first-of p) = false
 showing (D.second-of p) = false
 showing (D.ends e) = false
@@ -146,6 +148,28 @@ written-is : (x : Stored) (at : ℕ) (out new : List ℕ) → AllBytes new → t
     → stored itself (drop at new) ≡ got x (drop (at + length (layout x)) new) → new ≡ take at out ++ (layout x ++ drop (at + length (layout x)) out)
 written-is x at out new h t d e =
     sym (take-append-drop at new) ∙ ap₂ (λ (a b : List ℕ). a ++ b) t (layout-read (drop at new) x (drop (at + length (layout x)) new) (bytes-drop at new h) e ∙ ap (λ (b : List ℕ). layout x ++ b) d)
+
+-- a place has one byte
+same-byte : {n : ℕ} {A : Accepted} {H : History} → Fits n A H → {i b c : ℕ} → ByteOf n A i b → ByteOf n A i c → b ≡ c
+same-byte f (byte-not x) (byte-not y) = refl
+same-byte f (byte-not x) (byte-last y) = all-none f y x
+same-byte f (byte-not x) (byte-open y) = none-open x y
+same-byte f (byte-last x) (byte-not y) = all-none f x y
+same-byte f (byte-last x) (byte-last y) = refl
+same-byte f (byte-last x) (byte-open y) = all-open x y
+same-byte f (byte-open x) (byte-not y) = none-open y x
+same-byte f (byte-open x) (byte-last y) = all-open y x
+same-byte f (byte-open x) (byte-open y) = refl
+
+-- buffers that agree on the first n bytes and behind them
+same-buffer : (n : ℕ) (a b : List ℕ) → length a ≡ length b → drop n a ≡ drop n b → ((i : ℕ) → i < n → getD a i 0 ≡ getD b i 0) → a ≡ b
+same-buffer n a b e d h = ext-getD 0 a b e (λ i _. go i (decLt i n))
+  where
+    go : (i : ℕ) → Dec (i < n) → getD a i 0 ≡ getD b i 0
+    go i (yes l) = h i l
+    go i (no l) =
+        let k : n + (i - n) ≡ i = omega arith in
+        ap (λ (j : ℕ). getD a j 0) (sym k) ∙ sym (getD-drop n a (i - n) 0) ∙ ap (λ (x : List ℕ). getD x (i - n) 0) d ∙ getD-drop n b (i - n) 0 ∙ ap (λ (j : ℕ). getD b j 0) k
 
 -- ---- the theorem
 
@@ -288,6 +312,11 @@ single f s (wrote x₁ b₁ u₁ n₁ t₁ d₁ y₁) (wrote-short x₂ b₂ s�
 single {roster} {A} f s (wrote {p = p} {at = at} {out = out} {out′ = new₁} x₁ b₁ u₁ n₁ t₁ d₁ y₁) (wrote {out′ = new₂} x₂ b₂ u₂ n₂ t₂ d₂ y₂) c₁ c₂ =
     let x : Stored = recordIn roster (A .accepted) p in
     (ap (lent-one (D.ends (endIn roster (A .accepted) p at))) (written-is x at out new₁ c₁ t₁ d₁ y₁ ∙ sym (written-is x at out new₂ c₂ t₂ d₂ y₂)), refl)
+single f s (listed-short x₁) (listed-short x₂) c₁ c₂ = (refl, refl)
+single f s (listed-short x₁) (listed-all x₂ n₂ d₂ b₂) c₁ c₂ = off x₂ x₁
+single f s (listed-all x₁ n₁ d₁ b₁) (listed-short x₂) c₁ c₂ = off x₁ x₂
+single {roster} {A} f s (listed-all {out′ = new₁} x₁ n₁ d₁ b₁) (listed-all {out′ = new₂} x₂ n₂ d₂ b₂) c₁ c₂ =
+    (ap (lent-one D.listed) (same-buffer (length roster) new₁ new₂ (n₁ ∙ sym n₂) (d₁ ∙ sym d₂) (λ i l. same-byte f (b₁ i l) (b₂ i l))), refl)
 
 -- ---- a list of calls
 
@@ -328,6 +357,8 @@ left-fits {H = H} f (wrote-off a) = (H, f)
 left-fits {H = H} f (wrote-absent a b) = (H, f)
 left-fits {H = H} f (wrote-short a b d) = (H, f)
 left-fits {H = H} f (wrote a b d e m n p) = (H, f)
+left-fits {H = H} f (listed-short a) = (H, f)
+left-fits {H = H} f (listed-all a b d e) = (H, f)
 
 -- and the second serials stay apart
 left-seconds : {roster : List ℕ} {A B : Ledger} → AreSeconds roster (A .seconds) → {c : Call} {o : Outcome} → Dictates roster A c o B → AreSeconds roster (B .seconds)
@@ -365,6 +396,8 @@ left-seconds s (wrote-off a) = s
 left-seconds s (wrote-absent a b) = s
 left-seconds s (wrote-short a b d) = s
 left-seconds s (wrote a b d e m n p) = s
+left-seconds s (listed-short a) = s
+left-seconds s (listed-all a b d e) = s
 
 single-from : {roster : List ℕ} {A : Ledger} {H : History} → Fits (length roster) (A .accepted) H → Sound roster (A .seconds) → {cs : List Call} {os₁ os₂ : List Outcome}
     → Whole roster A cs os₁ → Whole roster A cs os₂ → AllInBytes os₁ → AllInBytes os₂ → map (plain (length roster)) os₁ ≡ map (plain (length roster)) os₂

@@ -26,6 +26,7 @@ use Rattle.groups.specs.declared.Giving.{Giving}
 use Rattle.groups.specs.declared.Giving.the-variants as Y
 use Rattle.checks.specs.Checks.{offRoster}
 use Rattle.shows.specs.Shows.{Shown, shownIn}
+use Rattle.lists.specs.Lists.{ListedAll, listedIn}
 use Rattle.replies.specs.Replies.{entering}
 use Rattle.recovery.specs.declared.Recovery.{Recovery}
 use Rattle.recovery.specs.declared.Opening.the-variants as G
@@ -176,6 +177,17 @@ askedAs is-open = A.Open
 
 unfoldable pub asked : Recovery → ℕ → Asked
 asked r i = cond (ltb i (sizeOf r)) (askedAs (answerAt r i)) (A.Refused 12)
+
+-- ---- listing every place: 13, or the byte of each answer laid down
+
+unfoldable pub listedOf : Recovery → List ℕ → ListedAll
+listedOf r out = listedIn (sizeOf r) (acceptedOf r) (has (r .mourned)) (has (r .earlier)) out
+
+-- the byte of what asking says: document 02, [4]
+pub data AskedByte : Asked → ℕ → Type 0 where
+  not-byte : AskedByte A.NotLast 0
+  last-byte : AskedByte A.Last 1
+  open-byte : AskedByte A.Open 2
 
 -- ---- showing: 12, decided, 13, or both histories laid down
 

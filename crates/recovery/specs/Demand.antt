@@ -17,7 +17,7 @@ use Rattle.records.specs.Layout as L
 
 -- document 01's words, and its refusals by their numbers
 pub data Said : Type 0 where
-  opened taken repeated is-last not-last is-open decided shown fits fits-not settled unsettled given not-found : Said
+  opened taken repeated is-last not-last is-open decided shown fits fits-not settled unsettled given not-found listed : Said
   -- a serial was found: it is the first one, or the second one, of this place
   first-of second-of : ℕ → Said
   -- a record was written, up to this position
@@ -54,6 +54,8 @@ pub data Call : Type 0 where
   give : ℕ → ℕ → Call
   -- a place, a buffer, and a position in it
   write : ℕ → List ℕ → ℕ → Call
+  -- a buffer
+  list : List ℕ → Call
 
 pub data Outcome : Type 0 where
   says : Said → Outcome
@@ -128,6 +130,12 @@ recordIn roster A p = record { kind = A .kind p; own = p; roster = roster; mourn
 abbrev pub endIn : List ℕ → Accepted → ℕ → ℕ → ℕ
 endIn roster A p at = at + length (layout (recordIn roster A p))
 
+-- the byte of a place in a list of all: document 02, [4]
+pub data ByteOf (n : ℕ) (A : Accepted) (i : ℕ) : ℕ → Type 0 where
+  byte-not : LastInNone n A i → ByteOf n A i 0
+  byte-last : LastInAll n A i → ByteOf n A i 1
+  byte-open : {F G : History} → Disagree n A i F G → ByteOf n A i 2
+
 -- `Dictates roster A c o B`: where A stands beside the recovery, the call c must have the outcome o, and leaves B there
 pub data Dictates (roster : List ℕ) : Ledger → Call → Outcome → Ledger → Type 0 where
   faulty : {A : Ledger} {bytes : List ℕ} {j : ℕ} → lone (countsAs roster (A .seconds)) bytes ≡ L.refused j → 1 ≤ j → j ≤ 8 → Dictates roster A (offer bytes) (says (refused j)) A
@@ -186,6 +194,9 @@ pub data Dictates (roster : List ℕ) : Ledger → Call → Outcome → Ledger �
       → length out′ ≡ length out → take at out′ ≡ take at out → drop (endIn roster (A .accepted) p at) out′ ≡ drop (endIn roster (A .accepted) p at) out
       → stored itself (drop at out′) ≡ got (recordIn roster (A .accepted) p) (drop (endIn roster (A .accepted) p at) out′)
       → Dictates roster A (write p out at) (lent-one (ends (endIn roster (A .accepted) p at)) out′) A
+  listed-short : {A : Ledger} {out : List ℕ} → length out < length roster → Dictates roster A (list out) (lent-one (refused 13) out) A
+  listed-all : {A : Ledger} {out out′ : List ℕ} → length roster ≤ length out → length out′ ≡ length out → drop (length roster) out′ ≡ drop (length roster) out
+      → ((i : ℕ) → i < length roster → ByteOf (length roster) (A .accepted) i (getD out′ i 0)) → Dictates roster A (list out) (lent-one listed out′) A
 
 -- a whole list of calls: each has the outcome that the records accepted and the second serials given before it dictate
 pub data Whole (roster : List ℕ) : Ledger → List Call → List Outcome → Type 0 where

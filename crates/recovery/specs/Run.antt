@@ -20,11 +20,14 @@ use Rattle.recovery.specs.declared.Asked.the-variants as A
 use Rattle.shows.specs.declared.Showing.{Showing}
 use Rattle.shows.specs.declared.Showing.the-variants as S
 use Rattle.shows.specs.Shows.{Shown}
+use Rattle.lists.specs.declared.Listing.{Listing}
+use Rattle.lists.specs.declared.Listing.the-variants as I
+use Rattle.lists.specs.Lists.{ListedAll}
 use Rattle.recovery.specs.declared.Checked.{Checked}
 use Rattle.recovery.specs.declared.Checked.the-variants as C
-use Rattle.recovery.specs.Contracts.{acceptedOf, secondsOf, opened, offered, asked, shown, checked, settledOf, unmournedOf, unmournedAbsentOf, unmournedCountOf, foundIn, given, writtenOf}
+use Rattle.recovery.specs.Contracts.{acceptedOf, secondsOf, opened, offered, asked, shown, checked, settledOf, unmournedOf, unmournedAbsentOf, unmournedCountOf, foundIn, given, writtenOf, listedOf}
 use Rattle.recovery.specs.Demand as D
-use Rattle.recovery.specs.Demand.{Said, Ledger, Call, offer, ask, show, check, whole, unmourned, unmourned-absent, unmourned-count, find, give, write, Outcome, says, lent, lent-one, places, number}
+use Rattle.recovery.specs.Demand.{Said, Ledger, Call, offer, ask, show, check, whole, unmourned, unmourned-absent, unmourned-count, find, give, write, list, Outcome, says, lent, lent-one, places, number}
 
 -- ---- document 01's word and number for each answer of the code
 
@@ -66,11 +69,18 @@ unfoldable pub givingSays : Giving → Said
 givingSays Y.Given = D.given
 givingSays (Y.Refused j) = D.refused j
 
+unfoldable pub listingSays : Listing → Said
+listingSays I.Laid = D.listed
+listingSays (I.Refused j) = D.refused j
+
 unfoldable pub shownGives : Shown → Outcome
 shownGives s = lent (showingSays (s .answer)) (s .first) (s .second)
 
 unfoldable pub writtenGives : Written → Outcome
 writtenGives w = lent-one (writingSays (w .answer)) (w .buffer)
+
+unfoldable pub listedGives : ListedAll → Outcome
+listedGives l = lent-one (listingSays (l .answer)) (l .buffer)
 
 -- ---- one call, and a list of them
 
@@ -86,6 +96,7 @@ outcome r unmourned-count = number (unmournedCountOf r)
 outcome r (find x) = says (foundSays (foundIn r x))
 outcome r (give p x) = says (givingSays (given r p x .answer))
 outcome r (write p out at) = writtenGives (writtenOf r p out at)
+outcome r (list out) = listedGives (listedOf r out)
 
 -- only offering and giving return a recovery; every other call leaves it as it is
 unfoldable pub next : Recovery → Call → Recovery
@@ -100,6 +111,7 @@ next r unmourned-count = r
 next r (find x) = r
 next r (give p x) = given r p x .recovery
 next r (write p out at) = r
+next r (list out) = r
 
 unfoldable pub run : Recovery → List Call → List Outcome
 run r [] = []

@@ -7,10 +7,11 @@ ghost use lib.ListN.{length};
 ghost use Rattle.places.specs.PlaceSets.{has};
 ghost use Rattle.replies.specs.Replies.{judgement};
 ghost use Rattle.recovery.specs.Contracts as contracts;
-ghost use Rattle.recovery.specs.Contracts.{opened, saying, keepingFull, keepingRow, keeping, answered, offered, asked, shown, checked, settledOf, unmournedOf, unmournedAbsentOf, unmournedCountOf, foundIn, withSecond, given, writtenOf};
+ghost use Rattle.recovery.specs.Contracts.{opened, saying, keepingFull, keepingRow, keeping, answered, offered, asked, shown, checked, settledOf, unmournedOf, unmournedAbsentOf, unmournedCountOf, foundIn, withSecond, given, writtenOf, listedOf};
 use answers::Answer;
 use groups::Giving;
 use histories::Kind;
+use lists::Listing;
 use places::Place;
 use places::PlaceSet;
 use records::Reading;
@@ -242,6 +243,18 @@ pub fn ask(r: Recovery, place: Place) -> Asked
         Answer::NotLast => Asked::NotLast,
         Answer::Open => Asked::Open,
     }
+}
+
+// Lists the answers of all places into a lent buffer, a byte each, as asking for them one by one would give: 13, or laid down.
+pub fn list(r: Recovery, out: &mut [u8]) -> Listing
+    ensures { λ s. ⌜ s ≡ listedOf r (now (out .entry)) .answer ⌝ }
+    ensures { λ s. ⌜ now (out .exit) ≡ listedOf r (now (out .entry)) .buffer ⌝ }
+{
+    let returned = r.returned;
+    let full = r.full;
+    let mourned = r.mourned;
+    let earlier = r.earlier;
+    lists::list(&r.rows, returned, full, mourned, earlier, r.count, out)
 }
 
 // The place of a serial, and which of the place's two it is.

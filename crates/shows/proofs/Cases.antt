@@ -35,11 +35,11 @@ module _ (n : ℕ) (A : Accepted) (M F : Row) (H : History) (i : ℕ) (a b : Lis
 
   module _ (l : i < n) (e : answerBy n A M F i ≡ is-open) where
     shown-open : (t : Bool) → leb (16 * n) (length a) && leb (16 * n) (length b) ≡ t
-        → shownIn n A M F H i a b ≡ cond t (record { answer = S.Shown; first = laid n H a; second = laid n (replaced H (lowest n (blockersBy n A F i)) (with i (before n A i))) b }) (unshown (S.Refused 13) a b)
+        → shownIn n A M F H i a b ≡ cond t (record { answer = S.Shown; first = laid n H a; second = laid n (replaced H (lowest n (blockersBy n A M F i)) (with i (before n A i))) b }) (unshown (S.Refused 13) a b)
     unfolding shownAs shownOpen
     shown-open t h =
         shown-at is-open l e
-        ∙ ap (λ (t : Bool). cond t (record { answer = S.Shown; first = laid n H a; second = laid n (replaced H (lowest n (blockersBy n A F i)) (with i (before n A i))) b }) (unshown (S.Refused 13) a b)) h
+        ∙ ap (λ (t : Bool). cond t (record { answer = S.Shown; first = laid n H a; second = laid n (replaced H (lowest n (blockersBy n A M F i)) (with i (before n A i))) b }) (unshown (S.Refused 13) a b)) h
 
     pub shown-short : (length a < 16 * n) ⊎ (length b < 16 * n) → shownIn n A M F H i a b ≡ unshown (S.Refused 13) a b
     shown-short s = shown-open false (short s)
@@ -49,5 +49,5 @@ module _ (n : ℕ) (A : Accepted) (M F : Row) (H : History) (i : ℕ) (a b : Lis
         short (inr s) = is-false _ (λ t. clash (and-right (leb (16 * n) (length a)) (leb (16 * n) (length b)) t) (lt-leb (16 * n) (length b) s))
 
     pub shown-both : 16 * n ≤ length a → 16 * n ≤ length b
-        → shownIn n A M F H i a b ≡ record { answer = S.Shown; first = laid n H a; second = laid n (replaced H (lowest n (blockersBy n A F i)) (with i (before n A i))) b }
+        → shownIn n A M F H i a b ≡ record { answer = S.Shown; first = laid n H a; second = laid n (replaced H (lowest n (blockersBy n A M F i)) (with i (before n A i))) b }
     shown-both u v = shown-open true (and-intro (le-leb (16 * n) (length a) u) (le-leb (16 * n) (length b) v))

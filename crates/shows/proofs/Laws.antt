@@ -33,26 +33,26 @@ use Rattle.shows.proofs.Cases.{shown-off, shown-last, shown-not, shown-
 -- ---- what is laid
 
 -- the lowest blocker, as it is found among 128 places
-module _ (n : ℕ) (A : Accepted) (F : Row) (i : ℕ) (few : n ≤ 128) (s : PlaceSet) (is : has s ≡ blockersBy n A F i) (f : Found) (e : f ≡ found 128 (lowest 128 (has s))) where
+module _ (n : ℕ) (A : Accepted) (M F : Row) (i : ℕ) (few : n ≤ 128) (s : PlaceSet) (is : has s ≡ blockersBy n A M F i) (f : Found) (e : f ≡ found 128 (lowest 128 (has s))) where
   blocker-on : (p : ℕ) → has s p ≡ true → p < n
   unfolding blockersBy
-  blocker-on p h = ltb-true p n (and-left (ltb p n) (not (eqb p i)) (and-left _ (not (A .returned p)) (and-left _ (not (ruledOutBy n A F i p)) (sym (ap (λ (S : Row). S p) is) ∙ h))))
+  blocker-on p h = ltb-true p n (and-left (ltb p n) (not (eqb p i)) (and-left _ (not (A .returned p)) (and-left _ (not (ruledOutBy n A M F i p)) (sym (ap (λ (S : Row). S p) is) ∙ h))))
 
-  pub blocker-at : (b : Place) → f ≡ At b → b .0 ≡ lowest n (blockersBy n A F i)
+  pub blocker-at : (b : Place) → f ≡ At b → b .0 ≡ lowest n (blockersBy n A M F i)
   blocker-at b h =
       let w = lowest-found 128 (has s) b (sym e ∙ h) in
       sym (lowest-is n (has s) (b .0) (blocker-on (b .0) (w .0)) (w .0) (w .2)) ∙ ap (lowest n) is
 
   -- one that is not mourned is open where there is a blocker, and last where there is none
-  pub blocker-open : (b : Place) → f ≡ At b → (M : Row) → M i ≡ false → answerBy n A M F i ≡ is-open
+  pub blocker-open : (b : Place) → f ≡ At b → M i ≡ false → answerBy n A M F i ≡ is-open
   unfolding answerBy answerWith
-  blocker-open b h M m =
+  blocker-open b h m =
       let w = lowest-found 128 (has s) b (sym e ∙ h) in
-      rw (m, any-intro n (blockersBy n A F i) (b .0) (blocker-on (b .0) (w .0)) (sym (ap (λ (S : Row). S (b .0)) is) ∙ w .0))
+      rw (m, any-intro n (blockersBy n A M F i) (b .0) (blocker-on (b .0) (w .0)) (sym (ap (λ (S : Row). S (b .0)) is) ∙ w .0))
 
-  pub blocker-none : f ≡ Nothing → (M : Row) → M i ≡ false → answerBy n A M F i ≡ is-last
+  pub blocker-none : f ≡ Nothing → M i ≡ false → answerBy n A M F i ≡ is-last
   unfolding answerBy answerWith
-  blocker-none h M m = rw (m, none-any n (blockersBy n A F i) (λ p l. sym (ap (λ (S : Row). S p) is) ∙ lowest-nothing 128 (has s) (sym e ∙ h) p (omega arith)))
+  blocker-none h m = rw (m, none-any n (blockersBy n A M F i) (λ p l. sym (ap (λ (S : Row). S p) is) ∙ lowest-nothing 128 (has s) (sym e ∙ h) p (omega arith)))
 
 pub blocker-small : (count : ℕ) (S : Row) (b : ℕ) → b ≡ lowest (size count) S → b ≤ 128
 blocker-small count S b e = omega (arith, e, lowest-at-most (size count) S, size-at-most count)
@@ -64,13 +64,13 @@ unfolding before
 heard-row count R U w i r e = e ∙ sym (ap (λ (H : History). kept (with i (reach (size count) H i))) (accepted-recorded count R U w))
 
 -- an open place has a blocker
-open-blocker : (n : ℕ) (A : Accepted) (M F : Row) (i : ℕ) → answerBy n A M F i ≡ is-open → lowest n (blockersBy n A F i) < n
+open-blocker : (n : ℕ) (A : Accepted) (M F : Row) (i : ℕ) → answerBy n A M F i ≡ is-open → lowest n (blockersBy n A M F i) < n
 unfolding answerBy answerWith openAnswer
-open-blocker n A M F i e = go (M i) (any n (blockersBy n A F i)) refl e
+open-blocker n A M F i e = go (M i) (any n (blockersBy n A M F i)) refl e
   where
-    go : (m b : Bool) → any n (blockersBy n A F i) ≡ b → cond m not-last (cond b is-open is-last) ≡ is-open → lowest n (blockersBy n A F i) < n
+    go : (m b : Bool) → any n (blockersBy n A M F i) ≡ b → cond m not-last (cond b is-open is-last) ≡ is-open → lowest n (blockersBy n A M F i) < n
     go true b x y = clash (ap openAnswer y) refl
-    go false true x y = let r = any-elim n (blockersBy n A F i) x in lowest-below n (blockersBy n A F i) (r .0) (r .1) (r .2)
+    go false true x y = let r = any-elim n (blockersBy n A M F i) x in lowest-below n (blockersBy n A M F i) (r .0) (r .1) (r .2)
     go false false x y = clash (ap openAnswer y) refl
 
 pub laid-in : (m : ℕ) (H : History) (out : List ℕ) → m ≤ 128 → 16 * m ≤ length out → laidIn m H out ≡ laid m H out
@@ -130,18 +130,18 @@ module _ (count : ℕ) (R U : Places) (w : List ℕ) (M F : Row) (i : ℕ) where
         show-13 s = gives (S.Refused 13) a b (shown-short n A M F H i a b l e s)
 
         pub show-both : (m : ℕ) → m ≡ n → 16 * m ≤ length a → 16 * m ≤ length b → (row : PlaceSet) (c : ℕ) (a′ b₁ b′ : List ℕ)
-            → c ≡ lowest n (blockersBy n A F i) → has row ≡ kept (with i (before n A i))
+            → c ≡ lowest n (blockersBy n A M F i) → has row ≡ kept (with i (before n A i))
             → a′ ≡ laidIn m H a → b₁ ≡ laidIn m H b → b′ ≡ putRow b₁ (16 * c) (has row)
             → Gives S.Shown a′ b′
         unfolding replaced
         show-both m is u v row c a′ b₁ b′ q h f g g′ =
             let few : m ≤ 128 = omega (arith, size-at-most count) in
-            let on : lowest n (blockersBy n A F i) < n = open-blocker n A M F i e in
+            let on : lowest n (blockersBy n A M F i) < n = open-blocker n A M F i e in
             let x = gives S.Shown _ _ (shown-both n A M F H i a b l e (rw (← is) u) (rw (← is) v)) in (
               x .0,
               (
                 f ∙ laid-in m H a few u ∙ ap (λ (m : ℕ). laid m H a) is ∙ x .1 .0,
                 g′ ∙ ap₂ (λ (w : List ℕ) (c : ℕ). putRow w (16 * c) (has row)) (g ∙ laid-in m H b few v ∙ ap (λ (m : ℕ). laid m H b) is) q
-                    ∙ laid-put n _ H (has row) b on ∙ ap (λ (S : Row). laid n (replaced H (lowest n (blockersBy n A F i)) S) b) (h ∙ heard-kept l) ∙ x .1 .1,
+                    ∙ laid-put n _ H (has row) b on ∙ ap (λ (S : Row). laid n (replaced H (lowest n (blockersBy n A M F i)) S) b) (h ∙ heard-kept l) ∙ x .1 .1,
               ),
             )

@@ -38,7 +38,7 @@ shownOpen n A M F H i a b =
     (record {
       answer = S.Shown;
       first = laid n H a;
-      second = laid n (replaced H (lowest n (blockersBy n A F i)) (with i (before n A i))) b;
+      second = laid n (replaced H (lowest n (blockersBy n A M F i)) (with i (before n A i))) b;
     })
     (unshown (S.Refused 13) a b)
 

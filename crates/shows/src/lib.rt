@@ -67,7 +67,7 @@ fn show_open(
     second: &mut [u8],
 ) -> Showing
     requires { ⌜ (place .0 < size count) × (keeping.answerBy (size count) (acceptedIn count (has returned) (has full) (now rows)) (has mourned) (has earlier) (place .0) ≡ rule.is-open) ⌝ }
-    requires { ⌜ blocker .0 ≡ sets.lowest (size count) (keeping.blockersBy (size count) (acceptedIn count (has returned) (has full) (now rows)) (has earlier) (place .0)) ⌝ }
+    requires { ⌜ blocker .0 ≡ sets.lowest (size count) (keeping.blockersBy (size count) (acceptedIn count (has returned) (has full) (now rows)) (has mourned) (has earlier) (place .0)) ⌝ }
     ensures { λ s. ⌜ s ≡ shownIn (size count) (acceptedIn count (has returned) (has full) (now (rows .entry))) (has mourned) (has earlier) (rowsOf (now (rows .entry))) (place .0) (now (first .entry)) (now (second .entry)) .answer ⌝ }
     ensures { λ s. ⌜ now (first .exit) ≡ shownIn (size count) (acceptedIn count (has returned) (has full) (now (rows .entry))) (has mourned) (has earlier) (rowsOf (now (rows .entry))) (place .0) (now (first .entry)) (now (second .entry)) .first ⌝ }
     ensures { λ s. ⌜ now (second .exit) ≡ shownIn (size count) (acceptedIn count (has returned) (has full) (now (rows .entry))) (has mourned) (has earlier) (rowsOf (now (rows .entry))) (place .0) (now (first .entry)) (now (second .entry)) .second ⌝ }
@@ -107,7 +107,7 @@ pub fn show(
     if places::contains(mourned, place) {
         return Showing::Decided;
     }
-    let blocking = answers::blockers(rows, returned, full, earlier, count, place);
+    let blocking = answers::blockers(rows, returned, full, mourned, earlier, count, place);
     let found = places::lowest(blocking);
     let Found::At(blocker) = found else {
         return Showing::Decided;

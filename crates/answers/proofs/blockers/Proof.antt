@@ -4,14 +4,14 @@ use borrow.Author.Needs.{needs}
 use Rattle.answers.proofs.blockers.Statement.{statement}
 use Rattle.answers.proofs.blockers.Tie as tie
 
-unheard-requires : tie.Need-unheard-requires
-unheard-requires c κs = search needs
+unheard-others-requires : tie.Need-unheard-others-requires
+unheard-others-requires c κs = search needs
 
 narrowed-requires : tie.Need-narrowed-requires
 narrowed-requires c κs = search needs
 
 returns : tie.Need-returns
-returns c = blockers-are _ _ _ _ _ _ _ (c .before .unheard .ensures) _ (c .narrowed .ensures)
+returns c = blockers-are _ _ _ _ _ _ _ _ (c .before .unheard-others .ensures) _ (c .narrowed .ensures)
 
 pub blockers-spec : {M : Type 1} → statement M
-blockers-spec = tie.close (tie.spec unheard-requires narrowed-requires returns)
+blockers-spec = tie.close (tie.spec unheard-others-requires narrowed-requires returns)

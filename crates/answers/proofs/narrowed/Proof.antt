@@ -14,12 +14,24 @@ returns c = narrowed-full _ _ _ (sym (c .before .full-back .ensures) ∙ c .if1 
 before-requires : tie.Need-before-requires
 before-requires c κs = search needs
 
+intersection-requires : tie.Need-intersection-requires
+intersection-requires c κs = search needs
+
 difference-requires : tie.Need-difference-requires
 difference-requires c κs = search needs
 
 returns-2 : tie.Need-returns-2
-returns-2 c = narrowed-other _ _ _ _ _ (sym (c .before .before .before .full-back .ensures) ∙ c .before .before .if1 .left) (c .before .before2 .ensures) (c .difference .ensures)
+returns-2 c =
+    let b = c .before .before in
+    narrowed-other _ _ _ _ _ _ _ (sym (b .before .before .full-back .ensures) ∙ b .before .if1 .left) (b .before2 .ensures) (c .before .intersection .ensures) (c .difference .ensures)
 
 pub narrowed-spec : {M : Type 1} → statement M
 narrowed-spec =
-    tie.close (tie.spec full-back-requires returns before-requires difference-requires returns-2)
+    tie.close
+    (tie.spec
+    full-back-requires
+    returns
+    before-requires
+    intersection-requires
+    difference-requires
+    returns-2)

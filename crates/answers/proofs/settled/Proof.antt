@@ -10,16 +10,16 @@ use Rattle.answers.proofs.settled.Statement.{statement}
 use Rattle.answers.proofs.settled.Tie as tie
 
 abbrev Inv-loop : tie.InvT-loop
-Inv-loop rows returned full earlier count unasked₀ unasked = Passed (size count) (acceptedIn count (has returned) (has full) rows) (has earlier) unasked₀ unasked
+Inv-loop rows returned full mourned earlier count unasked₀ unasked = Passed (size count) (acceptedIn count (has returned) (has full) rows) (has mourned) (has earlier) unasked₀ unasked
 
 abbrev μ-loop : tie.MeasureT-loop
-μ-loop rows returned full earlier count unasked₀ unasked = Rattle.places.specs.Sets.count 128 (has unasked)
+μ-loop rows returned full mourned earlier count unasked₀ unasked = Rattle.places.specs.Sets.count 128 (has unasked)
 
 unmourned-requires : tie.Need-unmourned-requires Inv-loop μ-loop
 unmourned-requires c κs = search needs
 
 loop-holds : tie.Need-loop-holds Inv-loop μ-loop
-loop-holds c = passed-none _ _ _ _
+loop-holds c = passed-none _ _ _ _ _
 
 lowest-requires : tie.Need-lowest-requires Inv-loop μ-loop
 lowest-requires c κs = search needs
@@ -55,7 +55,7 @@ loop-less c =
 loop-again : tie.Need-loop-again Inv-loop μ-loop
 loop-again c =
     let b = c .before .before in
-    passed-next _ _ _ _ _ _ (b .before .before .before .before .before .loop .inv) _
+    passed-next _ _ _ _ _ _ _ (b .before .before .before .before .before .loop .inv) _
     (sym (b .blocked .ensures) ∙ c .before .if1 .left) (c .without .ensures)
 
 pub settled-spec : {M : Type 1} → statement M

@@ -8,9 +8,6 @@ use Rattle.answers.proofs.unheard.Tie as tie
 roster-requires : tie.Need-roster-requires
 roster-requires c κs = search needs
 
-without-requires : tie.Need-without-requires
-without-requires c κs = search needs
-
 difference-requires : tie.Need-difference-requires
 difference-requires c κs = search needs
 
@@ -19,10 +16,9 @@ difference-requires-2 c κs = search needs
 
 returns : tie.Need-returns
 returns c =
-    let s = c .before .before .before .before .args in
-    unheard-is _ (has (s .returned)) (has (s .earlier)) _ _ _ _ _ (c .before .before .before .roster .ensures) (c .before .before .without .ensures) (c .before .difference .ensures) (c .difference2 .ensures)
+    let s = c .before .before .before .args in
+    unheard-is _ (has (s .returned)) (has (s .earlier)) _ _ _ (c .before .before .roster .ensures) (c .before .difference .ensures) (c .difference2 .ensures)
 
 pub unheard-spec : {M : Type 1} → statement M
 unheard-spec =
-    tie.close
-    (tie.spec roster-requires without-requires difference-requires difference-requires-2 returns)
+    tie.close (tie.spec roster-requires difference-requires difference-requires-2 returns)

@@ -40,7 +40,7 @@ returns-3 c =
     let d = b .before .before in
     let s = d .before .before .before .size .ensures in
     show-last _ _ _ _ _ _ _ _ _ (omega (arith, s .0))
-    (blocker-none _ _ _ _ (size-at-most _) _ (b .blockers .ensures) _ (low .lowest .ensures) (c .enum-told .given .1) _ (sym (d .contains .ensures) ∙ b .before .if2 .left))
+    (blocker-none _ _ _ _ _ (size-at-most _) _ (b .blockers .ensures) _ (low .lowest .ensures) (c .enum-told .given .1) (sym (d .contains .ensures) ∙ b .before .if2 .left))
 
 show-open-requires : tie.Need-show-open-requires
 show-open-requires c κs =
@@ -49,8 +49,8 @@ show-open-requires c κs =
     let b = low .before in
     let d = b .before .before in
     let s = d .before .before .before .size .ensures in
-    let at = blocker-at _ _ _ _ (size-at-most _) _ (b .blockers .ensures) _ (low .lowest .ensures) _ (f .found .given .1) in
-    let is = blocker-open _ _ _ _ (size-at-most _) _ (b .blockers .ensures) _ (low .lowest .ensures) _ (f .found .given .1) _ (sym (d .contains .ensures) ∙ b .before .if2 .left) in
+    let at = blocker-at _ _ _ _ _ (size-at-most _) _ (b .blockers .ensures) _ (low .lowest .ensures) _ (f .found .given .1) in
+    let is = blocker-open _ _ _ _ _ (size-at-most _) _ (b .blockers .ensures) _ (low .lowest .ensures) _ (f .found .given .1) (sym (d .contains .ensures) ∙ b .before .if2 .left) in
     ((omega (arith, s .0), is), at)
 
 same-length : tie.Need-same-length

@@ -1,17 +1,25 @@
 -- `listing::list_places` stays in the buffer and ends. Assumes nothing.
-use mathlib.Core.Path.{subst, _≡_}
+use mathlib.Core.Path.{_≡_, refl, subst}
 use Prim.Native.Nat.{_-_, _≤_}
 use native.Mathlib.Omega.{arith}
 use lib.ListN.{length}
 use borrow.Author.Needs.{needs}
+use Rattle.recovery.specs.Contracts.{sizeOf}
+use Rattle.recover.proofs.Gathered.{each-says}
 use Rattle.recover.proofs.listing.list_places.Statement.{statement}
 use Rattle.recover.proofs.listing.list_places.Tie as tie
 
 abbrev Inv-loop : tie.InvT-loop
-Inv-loop out₀ used r count end₀ p₀ out end p = (p ≤ count) × (end ≤ length out₀) × (length out ≡ length out₀)
+Inv-loop out₀ used r listed count end₀ p₀ out end p = (p ≤ count) × (end ≤ length out₀) × (length out ≡ length out₀)
 
 abbrev μ-loop : tie.MeasureT-loop
-μ-loop out₀ used r count end₀ p₀ out end p = count - p
+μ-loop out₀ used r listed count end₀ p₀ out end p = count - p
+
+slice-aggregate-list : tie.Need-slice-aggregate-list Inv-loop μ-loop
+slice-aggregate-list c = search needs
+
+list-requires : tie.Need-list-requires Inv-loop μ-loop
+list-requires c κs = search needs
 
 size-requires : tie.Need-size-requires Inv-loop μ-loop
 size-requires c κs = search needs
@@ -19,17 +27,10 @@ size-requires c κs = search needs
 loop-holds : tie.Need-loop-holds Inv-loop μ-loop
 loop-holds c = search needs
 
-mul-t12 : tie.Need-mul-t12 Inv-loop μ-loop
-mul-t12 c = search needs
-
-element-copy-out-t15 : tie.Need-element-copy-out-t15 Inv-loop μ-loop
-element-copy-out-t15 c = omega (arith, c .before .before .size .ensures .1)
-
-ask-requires : tie.Need-ask-requires Inv-loop μ-loop
-ask-requires c κs = search needs
-
-say-place-requires : tie.Need-say-place-requires Inv-loop μ-loop
-say-place-requires c κs = search needs
+list-place-requires : tie.Need-list-place-requires Inv-loop μ-loop
+list-place-requires c κs =
+    let z = c .before .before .before .before .before in
+    (search needs, (search needs, omega (arith, z .size .ensures .1)))
 
 add-p : tie.Need-add-p Inv-loop μ-loop
 add-p c = search needs
@@ -38,12 +39,15 @@ loop-less : tie.Need-loop-less Inv-loop μ-loop
 loop-less c = search needs
 
 loop-again : tie.Need-loop-again Inv-loop μ-loop
+unfolding sizeOf
 loop-again c =
-    let s = c .before .before .say-place in
-    let t = s .ensures .inside in
-    let l = c .before .before .before .before .before .before .before .loop in
-    let e : length (l .out) ≡ length (c .before .before .before .before .before .before .before .before .before .before .args .out .now) = l .inv .2 in
-    (search needs, subst (λ n. s .result ≤ n) e t, search needs)
+    let s = c .before .before .list-place in
+    let t = c .before .before .before .before .before .before in
+    let l = t .before .loop in
+    let z = t .before .before in
+    let g = z .before .before .before in
+    let b = each-says _ _ _ refl (g .list .ensures .1) (l .p) (omega (arith, z .size .ensures .0)) in
+    (search needs, subst (λ n. s .result ≤ n) (l .inv .2) (s .ensures _ b .inside), search needs)
 
 same-length : tie.Need-same-length Inv-loop μ-loop
 same-length c = search needs
@@ -57,12 +61,11 @@ list-places-spec =
     (tie.spec
     Inv-loop
     μ-loop
+    slice-aggregate-list
+    list-requires
     size-requires
     loop-holds
-    mul-t12
-    element-copy-out-t15
-    ask-requires
-    say-place-requires
+    list-place-requires
     add-p
     loop-less
     loop-again
