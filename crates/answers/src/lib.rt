@@ -387,7 +387,7 @@ fn free_among(
     }
 }
 
-// The places of the roster that are open. One that is neither mourned nor heard of blocks all others. Where all that are left are mourned,
+// The places of the roster that are open. One that is missing and not mourned blocks all others. Where all that are missing are mourned,
 // only one that is back and short can be free of them: if they are all before it.
 pub fn open_places(
     rows: &Rows,
