@@ -13,6 +13,7 @@ use std::hint::black_box;
 pub fn run() {
     let mut table = Table::default();
     reading(&mut table);
+    desk(&mut table);
     for (kinds, full) in MIXES {
         offering(&mut table, &format!("offering every record, {kinds}"), full, false);
     }
@@ -34,20 +35,38 @@ pub fn run() {
     table.print();
 }
 
-// The longest record of a roster: all are mourned.
+// The longest records of some rosters, where all are mourned: the order of the serials, how many they are, and the bytes.
+fn longest() -> impl Iterator<Item = (&'static str, usize, Vec<u8>)> {
+    let rosters = [("random order", &SIZES[..]), ("rising order", &[128]), ("one hash for all", &[128])];
+    let each = rosters.into_iter().flat_map(|(order, sizes)| sizes.iter().map(move |&n| (order, n)));
+    each.map(|(order, n)| (order, n, Layout::new(Short, &make::ordered(order, n), n / 2, below(n)).bytes()))
+}
+
 fn reading(table: &mut Table) {
-    for (order, sizes) in [("random order", &SIZES[..]), ("rising order", &[128]), ("one hash for all", &[128])] {
-        for &n in sizes {
-            let bytes = Layout::new(Short, &make::ordered(order, n), n / 2, below(n)).bytes();
-            let (mut words, mut roster) = ([0; 7], Vec::with_capacity(128));
-            let plain = record::read_lone(&bytes, Boards::OLD, &mut roster);
-            assert_eq!((proved::read_lone(&bytes, &[], &[], &mut words), plain.is_ok()), (0, true));
-            let times = calls(
-                || _ = black_box(proved::read_lone(black_box(&bytes), &[], &[], &mut words)),
-                || _ = black_box(record::read_lone(black_box(&bytes), Boards::OLD, &mut roster)),
-            );
-            table.add(&format!("reading the longest record, {order}"), n, times);
-        }
+    for (order, n, bytes) in longest() {
+        let (mut words, mut roster) = ([0; 7], Vec::with_capacity(128));
+        let plain = record::read_lone(&bytes, Boards::OLD, &mut roster);
+        assert_eq!((proved::read_lone(&bytes, &[], &[], &mut words), plain.is_ok()), (0, true));
+        let times = calls(
+            || _ = black_box(proved::read_lone(black_box(&bytes), &[], &[], &mut words)),
+            || _ = black_box(record::read_lone(black_box(&bytes), Boards::OLD, &mut roster)),
+        );
+        table.add(&format!("reading the longest record, {order}"), n, times);
+    }
+}
+
+// The ticket desk's reading of the same records: both sides give the roster as a part of the bytes.
+fn desk(table: &mut Table) {
+    for (order, n, bytes) in longest() {
+        let (mut words, mut roster) = ([0; 4], Vec::with_capacity(128));
+        let mut library = |bytes| (proved::read_desk(bytes, &[], &[], &mut words), proved::desk_roster(bytes, &words));
+        let plain = record::read_desk(&bytes, Boards::OLD, &mut roster).expect("a record");
+        assert_eq!(library(&bytes), (0, Some(plain.roster)));
+        let times = calls(
+            || _ = black_box(library(black_box(&bytes))),
+            || _ = black_box(record::read_desk(black_box(&bytes), Boards::OLD, &mut roster)),
+        );
+        table.add(&format!("reading the longest record for the ticket desk, {order}"), n, times);
     }
 }
 

@@ -121,6 +121,15 @@ unsafe extern "C" {
         seconds_length: usize,
         out: &mut [u64; 7],
     ) -> u8;
+    fn gm_read_desk(
+        bytes: *const u8,
+        length: usize,
+        firsts: *const u32,
+        firsts_length: usize,
+        seconds: *const u32,
+        seconds_length: usize,
+        out: &mut [u64; 4],
+    ) -> u8;
     fn gm_roster_is(bytes: *const u8, length: usize, at: usize, count: usize, list: *const u32, list_length: usize) -> u8;
     fn gm_copy_roster(bytes: *const u8, length: usize, at: usize, count: usize, list: &mut Serials) -> u8;
     fn gm_write_record(
@@ -235,6 +244,17 @@ pub fn read(bytes: &[u8], at: usize, firsts: &[u32], seconds: &[u32], out: &mut 
 
 pub fn read_lone(bytes: &[u8], firsts: &[u32], seconds: &[u32], out: &mut [u64; 7]) -> u8 {
     unsafe { gm_read_lone(bytes.as_ptr(), bytes.len(), firsts.as_ptr(), firsts.len(), seconds.as_ptr(), seconds.len(), out) }
+}
+
+// The ticket desk's reading of a lone record: kind, own serial as stored, where the roster's serials start, and how many they are.
+pub fn read_desk(bytes: &[u8], firsts: &[u32], seconds: &[u32], out: &mut [u64; 4]) -> u8 {
+    unsafe { gm_read_desk(bytes.as_ptr(), bytes.len(), firsts.as_ptr(), firsts.len(), seconds.as_ptr(), seconds.len(), out) }
+}
+
+// The roster's serials as a part of the lent bytes, or nothing where the desk's words go past their end.
+pub fn desk_roster<'a>(bytes: &'a [u8], words: &[u64; 4]) -> Option<&'a [u8]> {
+    let [_, _, start, count] = words.map(|word| word as usize);
+    bytes.get(start..)?.get(..count.checked_mul(4)?)
 }
 
 pub fn roster_is(bytes: &[u8], at: usize, count: usize, list: &[u32]) -> u8 {

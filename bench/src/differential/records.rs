@@ -1,10 +1,11 @@
-// Calls that take bytes and lists alone: readers, rosters in bytes, and the writer from parts.
+// Calls that take bytes and lists alone: readers, the ticket desk's among them, rosters in bytes, and the writer from parts.
 use super::{Run, list_length, words};
 use crate::make::{self, Group};
 use crate::plain::boards::Boards;
-use crate::plain::record::{self, Record};
+use crate::plain::record::{self, Record, Sight};
 use crate::plain::{Kind, Refusal};
 use crate::proved;
+use crate::random::Random;
 
 pub fn list(run: &mut Run) {
     let group = Group::any(&mut run.random);
@@ -20,12 +21,16 @@ pub fn list(run: &mut Run) {
         for part in &parts {
             read(run, boards, &bytes, start);
             roster(run, &group, &bytes, start + 6);
+            read_desk(run, boards, &bytes[start..]);
             start += part.len();
         }
         let at = make::position(&mut run.random, bytes.len(), 0);
         read(run, boards, &bytes, at);
         roster(run, &group, &bytes, at);
         read_lone(run, boards, &parts[0]);
+        read_desk(run, boards, &parts[0]);
+        other_ends(run, boards, &parts[0]);
+        cuts(run, boards, &parts[0]);
         write(run, &group);
     }
 }
@@ -76,34 +81,133 @@ fn begin(run: &mut Run, name: &'static str, at: usize, boards: Boards, bytes: &[
     run.begin(name, &numbers, bytes);
 }
 
-// Seven words of a record that was read, or those that were there.
-fn outcome(run: &mut Run, at: usize, before: [u64; 7], plain: Result<(Record, usize), Refusal>, code: u8, after: [u64; 7]) {
-    let wanted = plain.map_or(before, |(record, count)| {
-        let [low, high] = words(record.mourned);
-        [record.kind as u64, record.own as u64, at as u64 + 6, count as u64, low, high, (at + record.length) as u64]
-    });
+// Words lent to be written, and two more on both sides, which have to stay.
+#[repr(C)]
+#[derive(Clone, Copy, Debug, PartialEq)]
+struct Words<const N: usize> {
+    ahead: [u64; 2],
+    out: [u64; N],
+    behind: [u64; 2],
+}
+
+impl<const N: usize> Words<N> {
+    fn any(random: &mut Random) -> Self {
+        Words { ahead: words(random.bits()), out: [0; N].map(|_| random.next()), behind: words(random.bits()) }
+    }
+}
+
+// What a reader gave: its answer, and its words of a record that was read, or those that were there.
+fn outcome<const N: usize>(run: &mut Run, plain: Result<[u64; N], Refusal>, before: Words<N>, code: u8, after: Words<N>) {
     run.answer(plain.map_or_else(|refusal| refusal, |_| 0) as u64, code as u64);
-    run.same("the words afterwards", &wanted, &after);
+    run.same("the words afterwards", &plain.map_or(before, |out| Words { out, ..before }), &after);
+}
+
+// Seven words of a record at a position.
+fn record_words(at: usize, record: Record, count: usize) -> [u64; 7] {
+    let [low, high] = words(record.mourned);
+    [record.kind as u64, record.own as u64, at as u64 + 6, count as u64, low, high, (at + record.length) as u64]
 }
 
 fn read(run: &mut Run, boards: Boards, bytes: &[u8], at: usize) {
-    let before = [0; 7].map(|_: u64| run.random.next());
+    let before = Words::any(&mut run.random);
     let mut after = before;
     begin(run, "read", at, boards, bytes);
     let mut roster = Vec::new();
-    let plain = record::read(bytes.get(at..).unwrap_or(&[]), boards, &mut roster).map(|record| (record, roster.len()));
-    let code = proved::read(bytes, at, boards.firsts, boards.seconds, &mut after);
-    outcome(run, at, before, plain, code, after);
+    let plain = record::read(bytes.get(at..).unwrap_or(&[]), boards, &mut roster);
+    let code = proved::read(bytes, at, boards.firsts, boards.seconds, &mut after.out);
+    outcome(run, plain.map(|record| record_words(at, record, roster.len())), before, code, after);
 }
 
 fn read_lone(run: &mut Run, boards: Boards, bytes: &[u8]) {
-    let before = [0; 7].map(|_: u64| run.random.next());
-    let mut after = before;
+    let before = Words::any(&mut run.random);
     begin(run, "read_lone", 0, boards, bytes);
     let mut roster = Vec::new();
-    let plain = record::read_lone(bytes, boards, &mut roster).map(|record| (record, roster.len()));
-    let code = proved::read_lone(bytes, boards.firsts, boards.seconds, &mut after);
-    outcome(run, 0, before, plain, code, after);
+    let plain = record::read_lone(bytes, boards, &mut roster);
+    let (code, after) = engineer(boards, bytes, before);
+    outcome(run, plain.map(|record| record_words(0, record, roster.len())), before, code, after);
+}
+
+// The library's reading of a lone record: its answer and the words afterwards.
+fn engineer(boards: Boards, bytes: &[u8], mut words: Words<7>) -> (u8, Words<7>) {
+    (proved::read_lone(bytes, boards.firsts, boards.seconds, &mut words.out), words)
+}
+
+// The same for the desk, and the roster's part of the bytes where it was not refused.
+fn desk<'a>(boards: Boards, bytes: &'a [u8], mut words: Words<4>) -> (u8, Words<4>, Option<&'a [u8]>) {
+    let code = proved::read_desk(bytes, boards.firsts, boards.seconds, &mut words.out);
+    let part = if code == 0 { proved::desk_roster(bytes, &words.out) } else { None };
+    (code, words, part)
+}
+
+// Four words of what the desk sees of a lone record.
+fn desk_words(sight: Sight) -> [u64; 4] {
+    [sight.kind as u64, sight.own as u64, 6, sight.roster.len() as u64 / 4]
+}
+
+fn read_desk(run: &mut Run, boards: Boards, bytes: &[u8]) {
+    let before = Words::any(&mut run.random);
+    begin(run, "read_desk", 0, boards, bytes);
+    let plain = record::read_desk(bytes, boards, &mut Vec::new());
+    let (code, after, part) = desk(boards, bytes, before);
+    outcome(run, plain.map(desk_words), before, code, after);
+    let wanted = plain.ok().map(|sight| sight.roster);
+    run.same("the roster's serials", &wanted, &part);
+    // of both they are the lent bytes themselves, and no copy
+    for part in [wanted, part] {
+        run.same("where they lie", &wanted.map(|_| bytes[6..].as_ptr()), &part.map(<[u8]>::as_ptr));
+    }
+}
+
+// Where the roster of some bytes ends, or its count if that is no roster's; nothing where the bytes end before that.
+fn roster_end(bytes: &[u8]) -> Option<usize> {
+    let count = *bytes.get(5)? as usize;
+    let end = if (1..=128).contains(&count) { 6 + 4 * count } else { 6 };
+    (end <= bytes.len()).then_some(end)
+}
+
+// Changes what stands behind a position: a byte, all bytes, or how many they are.
+fn change_behind(random: &mut Random, bytes: &mut Vec<u8>, end: usize) {
+    let (length, more) = (bytes.len() - end, random.pick(&[1, 4, 30, 600]));
+    match random.below(6) {
+        0 => bytes.truncate(end),
+        1 => bytes.truncate(end + random.below(length + 1)),
+        2 => bytes.extend(random.bytes(more)),
+        3 if length > 0 => bytes[end] = random.pick(&[0, 1, 127, 128, 129, 255]),
+        4 if length > 0 => bytes[end + random.below(length)] ^= 1 << random.below(8),
+        _ => bytes.splice(end.., random.bytes(more)).for_each(drop),
+    }
+}
+
+// Bytes that are the same as far as the roster's end: the desk is told the same, whatever it is told.
+fn other_ends(run: &mut Run, boards: Boards, bytes: &[u8]) {
+    let Some(end) = roster_end(bytes) else { return };
+    let before = Words::any(&mut run.random);
+    let wanted = desk(boards, bytes, before);
+    for _ in 0..3 {
+        let mut others = bytes.to_vec();
+        change_behind(&mut run.random, &mut others, end);
+        begin(run, "read_desk, another end", end, boards, &others);
+        let got = desk(boards, &others, before);
+        run.same("what the desk is told, before and after a change behind the roster", &wanted, &got);
+        run.answer(wanted.0 as u64, got.0 as u64);
+    }
+}
+
+// A sound record, cut at every byte behind its roster: the desk is told the same, and the engineer is refused by 1.
+fn cuts(run: &mut Run, boards: Boards, bytes: &[u8]) {
+    let mut roster = Vec::new();
+    if record::read_lone(bytes, boards, &mut roster).is_err() {
+        return;
+    }
+    let (before, theirs) = (Words::any(&mut run.random), Words::any(&mut run.random));
+    begin(run, "read_desk, cut", 0, boards, bytes);
+    let wanted = desk(boards, bytes, before);
+    run.answer(0, wanted.0 as u64);
+    for length in 6 + 4 * roster.len()..bytes.len() {
+        let cut = &bytes[..length];
+        run.same("what the desk is told, of the whole and of so many bytes", &(length, wanted), &(length, desk(boards, cut, before)));
+        run.same("what the engineer is told of so many bytes", &(length, (1, theirs)), &(length, engineer(boards, cut, theirs)));
+    }
 }
 
 // Compares and copies a roster that may be elsewhere, shorter or longer.

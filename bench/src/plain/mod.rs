@@ -1,4 +1,4 @@
-// The same product in plain Rust, written from document 01 and from [2] to [4] of document 02 alone: nothing here is shared with the
+// The same product in plain Rust, written from document 01 and from [2] to [5] of document 02 alone: nothing here is shared with the
 // proved library.
 pub mod boards;
 pub mod day;

@@ -1,4 +1,4 @@
-// Stored records: reader and writer.
+// Stored records: the engineer's reader, the ticket desk's, and the writer.
 use super::boards::Boards;
 use super::set::{Set, below, members};
 use super::{Kind, Refusal};
@@ -11,6 +11,14 @@ pub struct Record {
     pub own: usize,
     pub mourned: Set,
     pub length: usize,
+}
+
+// What the ticket desk may see of a record: its own serial as stored, and the roster's serials, without their count, where they lie.
+#[derive(Clone, Copy, Debug, PartialEq, Eq)]
+pub struct Sight<'a> {
+    pub kind: Kind,
+    pub own: u32,
+    pub roster: &'a [u8],
 }
 
 fn byte(rest: &mut &[u8]) -> Result<u8, Refusal> {
@@ -44,6 +52,15 @@ fn read_roster(rest: &mut &[u8], roster: &mut Vec<u32>) -> Result<(), Refusal> {
     Ok(())
 }
 
+// The sections as far as the roster's end, for either reader: kind, own serial as stored, and the place that it stands for.
+fn read_front(rest: &mut &[u8], boards: Boards, roster: &mut Vec<u32>) -> Result<(Kind, u32, usize), Refusal> {
+    let kind = Kind::from_byte(byte(rest)?)?;
+    let own = serial(rest)?;
+    read_roster(rest, roster)?;
+    let place = boards.find_on(roster, own).ok_or(6)?.0;
+    Ok((kind, own, place))
+}
+
 fn read_mourned(rest: &mut &[u8], boards: Boards, roster: &[u32]) -> Result<Set, Refusal> {
     let count = byte(rest)? as usize;
     if count > roster.len() {
@@ -69,10 +86,7 @@ fn read_mourned(rest: &mut &[u8], boards: Boards, roster: &[u32]) -> Result<Set,
 // The record at the front of some bytes, whose own and mourned serials may be second ones.
 pub fn read(bytes: &[u8], boards: Boards, roster: &mut Vec<u32>) -> Result<Record, Refusal> {
     let mut rest = bytes;
-    let kind = Kind::from_byte(byte(&mut rest)?)?;
-    let own = serial(&mut rest)?;
-    read_roster(&mut rest, roster)?;
-    let own = boards.find_on(roster, own).ok_or(6)?.0;
+    let (kind, _, own) = read_front(&mut rest, boards, roster)?;
     let mourned = read_mourned(&mut rest, boards, roster)?;
     Ok(Record { kind, own, mourned, length: bytes.len() - rest.len() })
 }
@@ -81,6 +95,14 @@ pub fn read(bytes: &[u8], boards: Boards, roster: &mut Vec<u32>) -> Result<Recor
 pub fn read_lone(bytes: &[u8], boards: Boards, roster: &mut Vec<u32>) -> Result<Record, Refusal> {
     let record = read(bytes, boards, roster)?;
     if record.length < bytes.len() { Err(8) } else { Ok(record) }
+}
+
+// The desk's reading of a lone record: what follows the roster is not looked at, and may be anything.
+pub fn read_desk<'a>(bytes: &'a [u8], boards: Boards, roster: &mut Vec<u32>) -> Result<Sight<'a>, Refusal> {
+    let mut rest = bytes;
+    let (kind, own, _) = read_front(&mut rest, boards, roster)?;
+    let end = bytes.len() - rest.len();
+    Ok(Sight { kind, own, roster: &bytes[end - 4 * roster.len()..end] })
 }
 
 // Lays a record into a buffer from a position on, and gives where it ends.

@@ -11,7 +11,7 @@ use crate::plain::{Kind, Refusal};
 use crate::random::Random;
 
 // The bytes of a record, serial by serial.
-fn bytes(kind: Kind, own: u32, roster: &[u32], mourned: &[u32]) -> Vec<u8> {
+pub fn bytes(kind: Kind, own: u32, roster: &[u32], mourned: &[u32]) -> Vec<u8> {
     let (count, named) = (roster.len() as u8, mourned.len() as u8);
     Layout { kind: kind as u8, own, count, roster: roster.to_vec(), named, mourned: mourned.to_vec() }.bytes()
 }

@@ -1,6 +1,8 @@
-// The plain implementation by itself: document 01's listing and cases, both kinds in one group, board swaps, and all histories of small rosters.
+// The plain implementation by itself: document 01's listing and cases, both kinds in one group, board swaps, the ticket desk, and all
+// histories of small rosters.
 mod boards;
 mod cases;
+mod desk;
 mod histories;
 mod records;
 
@@ -23,6 +25,9 @@ pub fn run() {
         ("records read with second serials", boards::read),
         ("records offered with second serials", boards::offered),
         ("either serial, one meaning", boards::meaning),
+        ("faults of a record for the ticket desk", desk::faults),
+        ("second serials for the ticket desk", desk::second_serials),
+        ("what the ticket desk may not see", desk::hidden),
         ("all histories, up to 3 members", histories::enumeration),
         ("days", histories::days),
     ] {

@@ -1,12 +1,20 @@
--- Reading into the caller's seven words: what each answer leaves there. Assumes nothing.
-use mathlib.Core.Path.{_≡_, refl}
+-- Reading into the caller's words: what each answer leaves there. Assumes nothing.
+use mathlib.Core.Path.{_≡_, refl, sym, _∙_}
 use mathlib.Core.List.{List, [], _∷_}
-use Prim.Native.Nat.{ℕ}
+use Prim.Native.Nat.{ℕ, _/_}
+use native.Mathlib.Omega.{arith}
+use lib.ListN.{length}
+use Rattle.histories.specs.declared.Kind.{Kind}
+use Rattle.rosters.specs.declared.Serial.{Serial}
 use Rattle.records.specs.Layout.{kindByte}
 use Rattle.records.specs.declared.Record.{Record}
 use Rattle.records.specs.declared.Reading.{Reading}
 use Rattle.records.specs.declared.Reading.the-variants as R
-use Rattle.capi.specs.Boundary.{recordWords, readCode, readWords}
+use Rattle.records.specs.declared.Sight.{Sight}
+use Rattle.records.specs.declared.Sight.the-variants as T
+use Rattle.records.specs.Desk.{Shown, rosterPart, shownToDesk}
+use Rattle.records.proofs.Desks.{desk-faults, part-whole}
+use Rattle.capi.specs.Boundary.{recordWords, readCode, readWords, sightCode, sightWords, shownWords, partTold}
 
 -- the number of an answer, and the words after it
 abbrev pub Told : Reading → List ℕ → ℕ → List ℕ → Type 0
@@ -23,3 +31,24 @@ told-refused got out j e = rw e (refl, refl)
 
 pub told-same : (got as-read : Reading) (out : List ℕ) (c : ℕ) (after : List ℕ) → got ≡ as-read → Told got out c after → Told as-read out c after
 told-same got as-read out c after e t = rw (← e) t
+
+-- ---- the ticket desk's four words
+
+-- the number of an answer, the words after it, and the part that they tell
+abbrev pub Sighted : Shown → List ℕ → List ℕ → ℕ → List ℕ → Type 0
+Sighted x bytes out c after =
+    (c ≡ sightCode (x .answer)) × ((after ≡ shownWords x out) × (c ≡ 0 → partTold after bytes ≡ x .roster))
+
+module _ (alias : ℕ → ℕ) (bytes out : List ℕ) (answer : Sight) (e : answer ≡ shownToDesk alias bytes [] .answer) where
+  pub sighted-seen : (kind : Kind) (own : Serial) (part : List ℕ) (w : ℕ) → answer ≡ T.Seen kind own → part ≡ shownToDesk alias bytes [] .roster → w ≡ kindByte kind
+      → Sighted (shownToDesk alias bytes []) bytes out 0 (w ∷ own .0 ∷ 6 ∷ length part / 4 ∷ [])
+  unfolding sightCode sightWords shownWords partTold rosterPart
+  sighted-seen kind own part w f p k =
+      let is : shownToDesk alias bytes [] .answer ≡ T.Seen kind own = sym e ∙ f in
+      rw (is, p, k) (refl, (refl, λ z. part-whole alias bytes [] kind own is))
+
+  pub sighted-refused : (j : ℕ) → answer ≡ T.Refused j → Sighted (shownToDesk alias bytes []) bytes out j out
+  unfolding sightCode sightWords shownWords
+  sighted-refused j f =
+      let is : shownToDesk alias bytes [] .answer ≡ T.Refused j = sym e ∙ f in
+      rw is (refl, (refl, λ z. absurd (omega (arith, desk-faults alias bytes [] j is .0))))

@@ -2,8 +2,8 @@
 -- four words, 128 serials and the rows, and document 01's answers as numbers. Assumes nothing.
 use mathlib.Core.Bool.{Bool, cond}
 use mathlib.Core.List.{List, [], _∷_}
-use Prim.Native.Nat.{ℕ, _+_}
-use lib.ListN.{getD}
+use Prim.Native.Nat.{ℕ, _+_, _*_, _/_}
+use lib.ListN.{length, getD, take, drop}
 use lib.Dec.{eqb}
 use Rattle.places.specs.Sets.{Places}
 use Rattle.places.specs.PlaceSets.{packed}
@@ -18,9 +18,12 @@ use Rattle.records.specs.Layout.{kindByte, knownKind, kindOf}
 use Rattle.records.specs.declared.Record.{Record}
 use Rattle.records.specs.declared.Reading.{Reading}
 use Rattle.records.specs.declared.Reading.the-variants as R
+use Rattle.records.specs.declared.Sight.{Sight}
+use Rattle.records.specs.declared.Sight.the-variants as T
 use Rattle.records.specs.declared.Writing.{Writing}
 use Rattle.records.specs.declared.Writing.the-variants as W
 use Rattle.records.specs.Records.{Written, unwritten, written}
+use Rattle.records.specs.Desk.{Shown}
 use Rattle.replies.specs.declared.Reply.{Reply}
 use Rattle.replies.specs.declared.Reply.the-variants as O
 use Rattle.recovery.specs.declared.Recovery.{Recovery}
@@ -245,6 +248,23 @@ readCode (R.Refused j) = j
 unfoldable pub readWords : Reading → List ℕ → List ℕ
 readWords (R.Read x) out = recordWords x
 readWords (R.Refused j) out = out
+
+-- ---- what the ticket desk is shown, as four words: kind, own serial, where the roster's serials start, how many they are
+
+unfoldable pub sightCode : Sight → ℕ
+sightCode (T.Seen kind own) = 0
+sightCode (T.Refused j) = j
+
+unfoldable pub sightWords : Sight → ℕ → List ℕ → List ℕ
+sightWords (T.Seen kind own) count out = kindByte kind ∷ own .0 ∷ 6 ∷ count ∷ []
+sightWords (T.Refused j) count out = out
+
+unfoldable pub shownWords : Shown → List ℕ → List ℕ
+shownWords x out = sightWords (x .answer) (length (x .roster) / 4) out
+
+-- the part of some bytes that four such words tell: as many serials as the fourth says, from the position that the third says
+unfoldable pub partTold : List ℕ → List ℕ → List ℕ
+partTold words bytes = take (getD words 3 0 * 4) (drop (getD words 2 0) bytes)
 
 -- ---- writing a record from its parts: an unknown kind is 2, before all else
 

@@ -13,9 +13,10 @@ ghost use Rattle.places.specs.PlaceSets.{has};
 ghost use Rattle.rosters.specs.Seconds.{countsAs};
 ghost use Rattle.records.specs.Layout.{kindByte};
 ghost use Rattle.records.specs.Records.{reading, readingLone, rosterIs, copiable, copied};
+ghost use Rattle.records.specs.Desk.{shownToDesk};
 ghost use Rattle.recovery.specs.Contracts.{keepingFull, keepingRow, keeping, answered, asked, shown, checked, settledOf, unmournedOf, unmournedAbsentOf, unmournedCountOf, foundIn, given, writtenOf, listedOf};
 ghost use Rattle.executions.specs.Contracts as days;
-ghost use Rattle.capi.specs.Boundary.{kindIn, stoppedIn, recoveryIn, dayIn, setAt, setWords, headWords, headOf, eventOf, dayHeadOf, withStopped, openedHeld, begunHeld, offeredHeld, happenedHeld, dayOf, dayNow, playedNow, steppedNow, replyCode, askedCode, showingCode, listingCode, checkedCode, yesCode, foundOf, givingCode, endOf, wordsOf, readCode, readWords, writtenParts};
+ghost use Rattle.capi.specs.Boundary.{kindIn, stoppedIn, recoveryIn, dayIn, setAt, setWords, headWords, headOf, eventOf, dayHeadOf, withStopped, openedHeld, begunHeld, offeredHeld, happenedHeld, dayOf, dayNow, playedNow, steppedNow, replyCode, askedCode, showingCode, listingCode, checkedCode, yesCode, foundOf, givingCode, endOf, wordsOf, readCode, readWords, sightCode, shownWords, partTold, writtenParts};
 use answers::Answer;
 use executions::Day;
 use executions::Event;
@@ -26,6 +27,7 @@ use lists::Listing;
 use places::Place;
 use places::PlaceSet;
 use records::Reading;
+use records::Sight;
 use records::Writing;
 use recovery::Opening;
 use replies::Reply;
@@ -690,6 +692,32 @@ pub extern "C" fn gm_read_lone(
 {
     let got = records::read_lone(bytes, firsts, seconds);
     put_reading(out, got)
+}
+
+// What the ticket desk may see of a lone record: 1 to 6, or 0 and four words: its kind, its own serial as stored, and where its roster's
+// serials start and how many they are.
+#[no_mangle]
+pub extern "C" fn gm_read_desk(
+    bytes: &[u8],
+    firsts: &[u32],
+    seconds: &[u32],
+    out: &mut [u64; 4],
+) -> u8
+    ensures { λ r. ⌜ r ≡ sightCode (shownToDesk (countsAs (now (firsts .entry)) (now (seconds .entry))) (now (bytes .entry)) [] .answer) ⌝ }
+    ensures { λ r. ⌜ now (out .exit) ≡ shownWords (shownToDesk (countsAs (now (firsts .entry)) (now (seconds .entry))) (now (bytes .entry)) []) (now (out .entry)) ⌝ }
+    ensures { λ r. ⌜ (r ≡ 0 → partTold (now (out .exit)) (now (bytes .entry)) ≡ shownToDesk (countsAs (now (firsts .entry)) (now (seconds .entry))) (now (bytes .entry)) [] .roster) ⌝ }
+{
+    let mut roster = &bytes[..0];
+    match records::read_desk(bytes, firsts, seconds, &mut roster) {
+        Sight::Refused(fault) => fault,
+        Sight::Seen(kind, own) => {
+            let word = kind_word(kind);
+            let count = roster.len() / 4;
+            let words = [word, own.0 as u64, 6, count as u64];
+            *out = words;
+            0
+        }
+    }
 }
 
 // Whether the serials from a position on are those of a list: 1 or 0.

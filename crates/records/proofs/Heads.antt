@@ -65,7 +65,7 @@ module _ (alias : ℕ → ℕ) (k : Kind) (own at n : ℕ) (r : List ℕ) (f : F
   unfolding headOn
   own-lost a = rw (found-lacks (standsFor alias r own) r f is a)
 
-  pub own-found : (q : Place) → f ≡ At q → H.Found (record { kind = k; own = q; roster = at; count = n }) ≡ headOn alias k own at n r
+  pub own-found : (q : Place) → f ≡ At q → H.Found (record { kind = k; own = record { 0 = own }; place = q; roster = at; count = n }) ≡ headOn alias k own at n r
   unfolding headOn
   own-found q a =
       let p : placeOn alias r own ≡ q .0 = found-at (length r) (placeOn alias r own) q (sym is ∙ a) .0 in
@@ -73,7 +73,7 @@ module _ (alias : ℕ → ℕ) (k : Kind) (own at n : ℕ) (r : List ℕ) (f : F
 
 module _ (alias : ℕ → ℕ) (k : Kind) (own : ℕ) where
   judge : List ℕ → List ℕ → Parsed Head
-  judge r s₁ = check (isOn alias r own) 6 (got (record { kind = k; own = placeOn alias r own; roster = r }) s₁)
+  judge r s₁ = check (isOn alias r own) 6 (got (record { kind = k; own = own; place = placeOn alias r own; roster = r }) s₁)
 
   after : (s : List ℕ) (q : Parsed (List ℕ)) → rosterSection s ≡ q → rosterAfter alias k own s ≡ then q judge
   unfolding rosterAfter judge
@@ -86,10 +86,10 @@ module _ (alias : ℕ → ℕ) (k : Kind) (own : ℕ) where
     on-head = go (isOn alias (take n list) own)
       where
         h : Head
-        h = record { kind = k; own = placeOn alias (take n list) own; roster = take n list }
+        h = record { kind = k; own = own; place = placeOn alias (take n list) own; roster = take n list }
 
         go : (t : Bool) → check t 6 (got h (drop (at + n * 4) b))
-            ≡ headOf (cond t (H.Found (record { kind = k; own = record { 0 = placeOn alias (take n list) own }; roster = at; count = n })) (H.Refused 6)) b list
+            ≡ headOf (cond t (H.Found (record { kind = k; own = record { 0 = own }; place = record { 0 = placeOn alias (take n list) own }; roster = at; count = n })) (H.Refused 6)) b list
         go true = refl
         go false = refl
 
@@ -97,7 +97,7 @@ module _ (alias : ℕ → ℕ) (k : Kind) (own : ℕ) where
     unfolding headOn
     on-in r = go (isOn alias (take n list) own)
       where
-        go : (t : Bool) → HeadIn (cond t (H.Found (record { kind = k; own = record { 0 = placeOn alias (take n list) own }; roster = at; count = n })) (H.Refused 6)) b at list
+        go : (t : Bool) → HeadIn (cond t (H.Found (record { kind = k; own = record { 0 = own }; place = record { 0 = placeOn alias (take n list) own }; roster = at; count = n })) (H.Refused 6)) b at list
         go true = record { starts = refl; rostered = r }
         go false = tt
 

@@ -429,12 +429,13 @@ pub record Heading (alias : ℕ → ℕ) (s : List ℕ) (h : Head) (t : List ℕ
   pub from-serials : List ℕ
   pub kind : s ≡ kindByte (h .kind) ∷ from-own
   pub own-there : 4 ≤ length from-own
-  pub own-is : getD (h .roster) (h .own) 0 ≡ standsFor alias (h .roster) (wordAt from-own 0)
+  pub own-read : h .own ≡ wordAt from-own 0
+  pub own-is : getD (h .roster) (h .place) 0 ≡ standsFor alias (h .roster) (h .own)
   pub count : drop 4 from-own ≡ length (h .roster) ∷ from-serials
   pub there : 4 * length (h .roster) ≤ length from-serials
   pub are : h .roster ≡ serials (length (h .roster)) from-serials
   pub rest : t ≡ drop (4 * length (h .roster)) from-serials
-  pub own-on : h .own < length (h .roster)
+  pub own-on : h .place < length (h .roster)
   pub sound : IsRoster (h .roster)
 
 -- the roster: its count, its serials, and the bytes after it
@@ -488,12 +489,13 @@ head-back alias s h t e =
     let v = serial-back (a .1) own (b .1) (b .2) in
     let w : Listing (b .1) r (c .1) = listing-back (b .1) r (c .1) (c .2) in
     let on : placeOn alias r own < length r = holds-below (standsFor alias r own) r (d .0) in
-    heading-is alias s (record { kind = a .0; own = placeOn alias r own; roster = r }) h (c .1) t (d .1) (record {
+    heading-is alias s (record { kind = a .0; own = own; place = placeOn alias r own; roster = r }) h (c .1) t (d .1) (record {
       from-own = a .1;
       from-serials = w .from-serials;
       kind = kind-back s (a .0) (a .1) (a .2);
       own-there = v .0;
-      own-is = place-at (standsFor alias r own) r on ∙ ap (standsFor alias r) (v .2);
+      own-read = v .2;
+      own-is = place-at (standsFor alias r own) r on;
       count = sym (v .3) ∙ w .count;
       there = w .there;
       are = w .are;
@@ -504,13 +506,14 @@ head-back alias s h t e =
 
 -- ---- a whole record
 
--- a record without its mourned set
-abbrev pub headOf : Stored → Head
-headOf x = record { kind = x .kind; own = x .own; roster = x .roster }
+-- a record without its mourned set, and its own serial as stored
+abbrev pub headOf : ℕ → Stored → Head
+headOf own x = record { kind = x .kind; own = own; place = x .own; roster = x .roster }
 
 pub record Whole (alias : ℕ → ℕ) (s : List ℕ) (x : Stored) (t : List ℕ) : Type 0 where
   pub between : List ℕ
-  pub heading : Heading alias s (headOf x) between
+  pub own : ℕ
+  pub heading : Heading alias s (headOf own x) between
   pub mourning : Mourning alias (x .roster) between (x .mourned) t
 
 whole-is : (alias : ℕ → ℕ) (s : List ℕ) (y x : Stored) (u t : List ℕ) → got y u ≡ got x t → Whole alias s y u → Whole alias s x t
@@ -525,8 +528,9 @@ stored-back alias s x t e =
     let a = then-back (headSection alias s) _ x t e in
     let h : Head = a .0 in
     let b = then-back (mournedSection alias (h .roster) (a .1)) _ x t (a .3) in
-    whole-is alias s (record { kind = h .kind; own = h .own; roster = h .roster; mourned = b .0 }) x (b .1) t (b .3) (record {
+    whole-is alias s (record { kind = h .kind; own = h .place; roster = h .roster; mourned = b .0 }) x (b .1) t (b .3) (record {
       between = a .1;
+      own = h .own;
       heading = head-back alias s h (a .1) (a .2);
       mourning = section-back alias (h .roster) (a .1) (b .0) (b .1) (b .2);
     })

@@ -32,7 +32,7 @@ repacked m w = sym (packed-is m (has m) w (sym (kept-has m)))
 module _ (alias : ℕ → ℕ) (b : List ℕ) (at : ℕ) (x : Heading) (list : List ℕ) (sec : headSection alias (drop at b) ≡ headOf x b list) where
   joined : Head → List ℕ → Parsed Stored
   joined h s₁ =
-      then (mournedSection alias (h .roster) s₁) (λ M s₂. got (record { kind = h .kind; own = h .own; roster = h .roster; mourned = M }) s₂)
+      then (mournedSection alias (h .roster) s₁) (λ M s₂. got (record { kind = h .kind; own = h .place; roster = h .roster; mourned = M }) s₂)
 
   headed : (q : Parsed Head) → headOf x b list ≡ q → reading alias b at ≡ readingOf (length b) at (then q joined)
   unfolding reading stored joined
@@ -44,18 +44,18 @@ module _ (alias : ℕ → ℕ) (b : List ℕ) (at : ℕ) (x : Heading) (list : L
 
   module _ (h : Top) (e : x ≡ H.Found h) (y : Tail) (q : mournedSection alias (take (h .count) list) (drop (h .roster + h .count * 4) b) ≡ tailOf y b) where
     parted : reading alias b at
-        ≡ readingOf (length b) at (then (tailOf y b) (λ M s₂. got (record { kind = h .kind; own = h .own .0; roster = take (h .count) list; mourned = M }) s₂))
+        ≡ readingOf (length b) at (then (tailOf y b) (λ M s₂. got (record { kind = h .kind; own = h .place .0; roster = take (h .count) list; mourned = M }) s₂))
     unfolding headOf then joined
     parted =
-        headed (got (record { kind = h .kind; own = h .own .0; roster = take (h .count) list }) (drop (h .roster + h .count * 4) b)) (ap (λ (z : Heading). headOf z b list) e)
-        ∙ ap (λ (z : Parsed Places). readingOf (length b) at (then z (λ M s₂. got (record { kind = h .kind; own = h .own .0; roster = take (h .count) list; mourned = M }) s₂))) q
+        headed (got (record { kind = h .kind; own = h .own .0; place = h .place .0; roster = take (h .count) list }) (drop (h .roster + h .count * 4) b)) (ap (λ (z : Heading). headOf z b list) e)
+        ∙ ap (λ (z : Parsed Places). readingOf (length b) at (then z (λ M s₂. got (record { kind = h .kind; own = h .place .0; roster = take (h .count) list; mourned = M }) s₂))) q
 
     pub read-no-tail : (j : ℕ) → y ≡ T.Refused j → R.Refused j ≡ reading alias b at
     unfolding tailOf then readingOf
     read-no-tail j d = sym (parted ∙ rw d)
 
     pub read-whole : (m : PlaceSet) (next : ℕ) → y ≡ T.End m next → Words m → next ≤ length b → h .roster ≡ at + 6 → length (take (h .count) list) ≡ h .count
-        → R.Read (record { kind = h .kind; own = h .own; roster = h .roster; count = h .count; mourned = m; next = next }) ≡ reading alias b at
+        → R.Read (record { kind = h .kind; own = h .place; roster = h .roster; count = h .count; mourned = m; next = next }) ≡ reading alias b at
     unfolding tailOf then readingOf
     read-whole m next d w n s l =
         let k : length b - length (drop next b) ≡ next = omega (arith, length-drop next b) in

@@ -41,14 +41,14 @@ module _ (alias : ℕ → ℕ) (s : List ℕ) (k : Head) (t : List ℕ) (a : Hea
   roster-below p l = subst (λ (r : List ℕ). getD r p 0 < 2 ^ 32) (sym (a .are)) (serials-below (length (k .roster)) (a .from-serials) roster-bytes p l)
 
   -- its bytes are those of its parts, but for the own serial: there stands one that stands for the own place's
-  pub head-bytes : s ≡ kindByte (k .kind) ∷ (serialBytes (wordAt (a .from-own) 0) ++ (length (k .roster) ∷ (serialsBytes (k .roster) ++ t)))
+  pub head-bytes : s ≡ kindByte (k .kind) ∷ (serialBytes (k .own) ++ (length (k .roster) ∷ (serialsBytes (k .roster) ++ t)))
   head-bytes =
       let n : ℕ = length (k .roster) in
       let serials-are : a .from-serials ≡ serialsBytes (k .roster) ++ t =
       serials-bytes n (a .from-serials) roster-bytes (a .there) ∙ ap₂ (λ (r l : List ℕ). serialsBytes r ++ l) (sym (a .are)) (sym (a .rest)) in
       a .kind
       ∙ ap (λ (l : List ℕ). kindByte (k .kind) ∷ l) (word-bytes (a .from-own) own-bytes (a .own-there)
-      ∙ ap (λ (l : List ℕ). serialBytes (wordAt (a .from-own) 0) ++ l) (a .count ∙ ap (λ (l : List ℕ). n ∷ l) serials-are))
+      ∙ ap₂ (λ (x : ℕ) (l : List ℕ). serialBytes x ++ l) (sym (a .own-read)) (a .count ∙ ap (λ (l : List ℕ). n ∷ l) serials-are))
 
 -- where no serial counts as another, each stands for itself
 stands-all : (r l : List ℕ) → map (standsFor itself r) l ≡ l
@@ -66,7 +66,7 @@ mourned-bytes r s M t a h =
 pub stored-is : (alias : ℕ → ℕ) (s : List ℕ) (x : Stored) (rest : List ℕ) → AllBytes s → stored alias s ≡ got x rest → IsStored x
 stored-is alias s x rest h e =
     let w : Whole alias s x rest = stored-back alias s x rest e in
-    record { roster = w .heading .sound; below = roster-below alias s (headOf x) (w .between) (w .heading) h; own = w .heading .own-on; mourned = w .mourning .on }
+    record { roster = w .heading .sound; below = roster-below alias s (headOf (w .own) x) (w .between) (w .heading) h; own = w .heading .own-on; mourned = w .mourning .on }
 
 -- ---- reading what was written: in first serials, so that it does not matter what others count as
 
@@ -77,7 +77,7 @@ module _ (alias : ℕ → ℕ) (x : Stored) (i : IsStored x) (rest : List ℕ) w
       check-yes _ 3 _ (le-leb 1 (length (x .roster)) (i .roster .some)) ∙ check-yes _ 3 _ (le-leb (length (x .roster)) 128 (i .roster .few))
       ∙ roster-read (x .roster) [] t (roster-apart (x .roster) (i .roster)) (i .below)
 
-  head-is : (t : List ℕ) → headSection alias (kindByte (x .kind) ∷ (serialBytes (getD (x .roster) (x .own) 0) ++ (length (x .roster) ∷ (serialsBytes (x .roster) ++ t)))) ≡ got (headOf x) t
+  head-is : (t : List ℕ) → headSection alias (kindByte (x .kind) ∷ (serialBytes (getD (x .roster) (x .own) 0) ++ (length (x .roster) ∷ (serialsBytes (x .roster) ++ t)))) ≡ got (headOf (getD (x .roster) (x .own) 0) x) t
   unfolding headSection
   head-is t =
       let own : ℕ = getD (x .roster) (x .own) 0 in
@@ -87,13 +87,13 @@ module _ (alias : ℕ → ℕ) (x : Stored) (i : IsStored x) (rest : List ℕ) w
       ∙ then-got _ own s₂ (serial-read own s₂ (i .roster .no-zero (x .own) (i .own)) (i .below (x .own) (i .own)))
       ∙ then-got _ (x .roster) t (roster-is t)
       ∙ check-yes _ 6 _ (own-place alias (x .roster) own (x .own) p (i .own) .0)
-      ∙ ap (λ (o : ℕ). got (record { kind = x .kind; own = o; roster = x .roster }) t) (own-place alias (x .roster) own (x .own) p (i .own) .1)
+      ∙ ap (λ (o : ℕ). got (record { kind = x .kind; own = own; place = o; roster = x .roster }) t) (own-place alias (x .roster) own (x .own) p (i .own) .1)
 
   pub read-layout : stored alias (layout x ++ rest) ≡ got x rest
   unfolding stored
   read-layout =
       let s₃ : List ℕ = length (chosen (x .mourned) (x .roster)) ∷ (serialsBytes (chosen (x .mourned) (x .roster)) ++ rest) in
-      ap (stored alias) (layout-shape x rest) ∙ then-got _ (headOf x) s₃ (head-is s₃)
+      ap (stored alias) (layout-shape x rest) ∙ then-got _ (headOf (getD (x .roster) (x .own) 0) x) s₃ (head-is s₃)
       ∙ then-got _ (x .mourned) rest (mourned-read alias (x .roster) (roster-apart (x .roster) (i .roster)) (i .below) (x .mourned) (i .mourned) rest)
 
 pub layout-lone : (alias : ℕ → ℕ) (x : Stored) → IsStored x → lone alias (layout x) ≡ got x []
@@ -107,10 +107,10 @@ pub layout-read : (s : List ℕ) (x : Stored) (rest : List ℕ) → AllBytes s �
 layout-read s x rest h e =
     let w : Whole itself s x rest = stored-back itself s x rest e in
     let a = w .heading in
-    head-bytes itself s (headOf x) (w .between) a h
+    head-bytes itself s (headOf (w .own) x) (w .between) a h
     ∙ ap₂ (λ (own : ℕ) (l : List ℕ). kindByte (x .kind) ∷ (serialBytes own ++ (length (x .roster) ∷ (serialsBytes (x .roster) ++ l))))
-    (sym (a .own-is ∙ stands-plain (x .roster) (wordAt (a .from-own) 0)))
-    (mourned-bytes (x .roster) (w .between) (x .mourned) rest (w .mourning) (rest-bytes itself s (headOf x) (w .between) a h))
+    (sym (a .own-is ∙ stands-plain (x .roster) (w .own)))
+    (mourned-bytes (x .roster) (w .between) (x .mourned) rest (w .mourning) (rest-bytes itself s (headOf (w .own) x) (w .between) a h))
     ∙ sym (layout-shape x rest)
 
 module _ (alias : ℕ → ℕ) (s : List ℕ) (x : Stored) (rest : List ℕ) (h : AllBytes s) where
@@ -289,7 +289,8 @@ unfolding check
 check-numbered most true j p l h = h
 check-numbered most false j p l h = l
 
-module _ (alias : ℕ → ℕ) (most : ℕ) (all : 7 ≤ most) where
+-- as far as the roster's end the largest is 6
+module _ (alias : ℕ → ℕ) (most : ℕ) (six : 6 ≤ most) where
   byte-numbered : (s : List ℕ) → Numbered most (byte s)
   unfolding byte
   byte-numbered [] = (omega arith, omega arith)
@@ -314,19 +315,27 @@ module _ (alias : ℕ → ℕ) (most : ℕ) (all : 7 ≤ most) where
       (then-numbered most (byte s₂) _ (byte-numbered s₂) (λ n s₃. check-numbered most _ 3 _ (omega arith, omega arith) (check-numbered most _ 3 _ (omega arith, omega arith) (serials-numbered n [] s₃))))
       (λ r s₃. check-numbered most _ 6 _ (omega arith, omega arith) tt)))
 
+-- and in a whole record 7
+module _ (alias : ℕ → ℕ) (most : ℕ) (all : 7 ≤ most) where
+  six-too : 6 ≤ most
+  six-too = omega arith
+
   mourned-numbered : (m : ℕ) (r : List ℕ) (from : ℕ) (M : Places) (s : List ℕ) → Numbered most (mournedSerials alias m r from M s)
   unfolding mournedSerials
   mourned-numbered zero r from M s = tt
   mourned-numbered (suc m) r from M s =
-      then-numbered most (serial s) _ (serial-numbered s) (λ x s₁. check-numbered most _ 6 _ (omega arith, omega arith) (check-numbered most _ 7 _ (omega arith, omega arith)
+      then-numbered most (serial s) _ (serial-numbered alias most six-too s) (λ x s₁. check-numbered most _ 6 _ (omega arith, omega arith) (check-numbered most _ 7 _ (omega arith, omega arith)
       (mourned-numbered m r (suc (placeOn alias r x)) (with (placeOn alias r x) M) s₁)))
 
   stored-numbered : (s : List ℕ) → Numbered most (stored alias s)
   unfolding stored mournedSection
   stored-numbered s =
-      then-numbered most (headSection alias s) _ (head-numbered s) (λ h s₁. then-numbered most (mournedSection alias (h .roster) s₁) _
-      (then-numbered most (byte s₁) _ (byte-numbered s₁) (λ m s₂. check-numbered most _ 3 _ (omega arith, omega arith) (mourned-numbered m (h .roster) 0 nothing s₂)))
+      then-numbered most (headSection alias s) _ (head-numbered alias most six-too s) (λ h s₁. then-numbered most (mournedSection alias (h .roster) s₁) _
+      (then-numbered most (byte s₁) _ (byte-numbered alias most six-too s₁) (λ m s₂. check-numbered most _ 3 _ (omega arith, omega arith) (mourned-numbered m (h .roster) 0 nothing s₂)))
       (λ M s₂. tt))
+
+pub head-faults : (alias : ℕ → ℕ) (s : List ℕ) (j : ℕ) → headSection alias s ≡ refused j → (1 ≤ j) × (j ≤ 6)
+head-faults alias s j e = subst (Numbered 6) e (head-numbered alias 6 (omega arith) s)
 
 pub stored-faults : (alias : ℕ → ℕ) (s : List ℕ) (j : ℕ) → stored alias s ≡ refused j → (1 ≤ j) × (j ≤ 7)
 stored-faults alias s j e = subst (Numbered 7) e (stored-numbered alias 7 (omega arith) s)

@@ -68,10 +68,11 @@ isOn alias r x = holds (standsFor alias r x) r
 abbrev pub placeOn : (ℕ → ℕ) → List ℕ → ℕ → ℕ
 placeOn alias r x = placeOf (standsFor alias r x) r
 
--- a record as far as the roster's end, its own serial as a place of the roster
+-- a record as far as the roster's end: its own serial is the one that is stored, and `place` where that stands on the roster
 pub record Head : Type 0 where
   pub kind : Kind
   pub own : ℕ
+  pub place : ℕ
   pub roster : List ℕ
 
 -- the own serial is looked up when the roster has been read (6)
@@ -80,7 +81,7 @@ headSection alias s =
     then (kindSection s) (λ k s₁.
     then (serial s₁) (λ own s₂.
     then (rosterSection s₂) (λ r s₃.
-    check (isOn alias r own) 6 (got (record { kind = k; own = placeOn alias r own; roster = r }) s₃))))
+    check (isOn alias r own) 6 (got (record { kind = k; own = own; place = placeOn alias r own; roster = r }) s₃))))
 
 -- m serials of the roster (6), at rising places from `from` on (7), which join the set M
 unfoldable pub mournedSerials : (ℕ → ℕ) → ℕ → List ℕ → ℕ → Places → List ℕ → Parsed Places
@@ -107,7 +108,7 @@ unfoldable pub stored : (ℕ → ℕ) → List ℕ → Parsed Stored
 stored alias s =
     then (headSection alias s) (λ h s₁.
     then (mournedSection alias (h .roster) s₁) (λ M s₂.
-    got (record { kind = h .kind; own = h .own; roster = h .roster; mourned = M }) s₂))
+    got (record { kind = h .kind; own = h .place; roster = h .roster; mourned = M }) s₂))
 
 -- a lone record: nothing follows it (8)
 unfoldable pub lone : (ℕ → ℕ) → List ℕ → Parsed Stored

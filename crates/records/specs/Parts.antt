@@ -26,7 +26,7 @@ use Rattle.records.specs.Layout.{Parsed, got, refused, then, check, word
 -- from the roster on, where the own serial is known
 unfoldable pub rosterAfter : (ℕ → ℕ) → Kind → ℕ → List ℕ → Parsed Head
 rosterAfter alias k own s =
-    then (rosterSection s) (λ r s₁. check (isOn alias r own) 6 (got (record { kind = k; own = placeOn alias r own; roster = r }) s₁))
+    then (rosterSection s) (λ r s₁. check (isOn alias r own) 6 (got (record { kind = k; own = own; place = placeOn alias r own; roster = r }) s₁))
 
 -- from the own serial on
 unfoldable pub ownAfter : (ℕ → ℕ) → Kind → List ℕ → Parsed Head
@@ -54,12 +54,12 @@ rosterFault n seen s = cond (eqb (firstFault seen s) 0) (cond (ltb (length s) n)
 -- the head of a record whose roster r, of n serials, stands at a position: the own serial is looked up on it
 unfoldable pub headOn : (ℕ → ℕ) → Kind → ℕ → ℕ → ℕ → List ℕ → Heading
 headOn alias k own at n r =
-    cond (isOn alias r own) (H.Found (record { kind = k; own = record { 0 = placeOn alias r own }; roster = at; count = n })) (H.Refused 6)
+    cond (isOn alias r own) (H.Found (record { kind = k; own = record { 0 = own }; place = record { 0 = placeOn alias r own }; roster = at; count = n })) (H.Refused 6)
 
 -- what a head that was found says of the bytes; its roster stands at the front of the list
 unfoldable pub headOf : Heading → List ℕ → List ℕ → Parsed Head
 headOf (H.Found h) b list =
-    got (record { kind = h .kind; own = h .own .0; roster = take (h .count) list }) (drop (h .roster + h .count * 4) b)
+    got (record { kind = h .kind; own = h .own .0; place = h .place .0; roster = take (h .count) list }) (drop (h .roster + h .count * 4) b)
 headOf (H.Refused j) b list = refused j
 
 -- its roster starts at a position, is there, fits, and has no repeat

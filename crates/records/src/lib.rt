@@ -11,6 +11,7 @@ ghost use Rattle.rosters.specs.Rosters.{placeFrom, firstRepeat};
 ghost use Rattle.rosters.specs.Seconds.{countsAs, standsFor};
 ghost use Rattle.records.specs.Layout.{wordAt, rosterSerials, headSection, mournedSerials, mournedSection};
 ghost use Rattle.records.specs.Records.{reading, readingLone, serials, sameList, rosterThere, rosterIs, copiable, copied};
+ghost use Rattle.records.specs.Desk.{shownToDesk, liesOf};
 ghost use Rattle.records.specs.Parts.{rosterAfter, ownAfter, ownerOf, OwnerIn, coded, rosterFault, headOn, headOf, Rostered, HeadIn, Like, mournedOf, MournedIn, tailOf, TailIn, alike, alikeFrom};
 use histories::Kind;
 use places::Found;
@@ -35,6 +36,12 @@ pub enum Reading {
     Refused(u8),
 }
 
+// What the ticket desk may see of a record besides its roster: its kind, and its own serial as stored.
+pub enum Sight {
+    Seen(Kind, Serial),
+    Refused(u8),
+}
+
 // What the writer says: where the record ends, or the refusal.
 pub enum Writing {
     Next(usize),
@@ -50,7 +57,8 @@ enum Owner {
 // A record as far as its roster's end.
 struct Top {
     kind: Kind,
-    own: Place,
+    own: Serial,
+    place: Place,
     roster: usize,
     count: usize,
 }
@@ -175,7 +183,8 @@ fn on_roster(
     };
     Heading::Found(Top {
         kind,
-        own: place,
+        own,
+        place,
         roster,
         count: n,
     })
@@ -357,7 +366,7 @@ fn read_rest(
         Heading::Refused(fault) => Reading::Refused(fault),
         Heading::Found(top) => {
             let kind = top.kind;
-            let own = top.own;
+            let own = top.place;
             let roster = top.roster;
             let count = top.count;
             match read_tail(bytes, roster + count * 4, &list[..count], firsts, seconds) {
@@ -446,6 +455,32 @@ pub fn read_lone(bytes: &[u8], firsts: &[u32], seconds: &[u32]) -> Reading
                 return Reading::Refused(8);
             }
             Reading::Read(first)
+        }
+    }
+}
+
+// Reads a lone record for the ticket desk, as far as its roster's end. The roster's serials are handed back as a part of the bytes;
+// where the record is refused, `roster` stays as it was.
+pub fn read_desk<'a>(
+    bytes: &'a [u8],
+    firsts: &[u32],
+    seconds: &[u32],
+    roster: &mut &'a [u8],
+) -> Sight
+    ensures { λ r. ⌜ r ≡ shownToDesk (countsAs (now (firsts .entry)) (now (seconds .entry))) (now (bytes .entry)) (now (now (roster .entry))) .answer ⌝ }
+    ensures { λ r. ⌜ now (now (roster .exit)) ≡ shownToDesk (countsAs (now (firsts .entry)) (now (seconds .entry))) (now (bytes .entry)) (now (now (roster .entry))) .roster ⌝ }
+    ensures { λ r. ⌜ now (roster .exit) .ptr ≡ liesOf r (bytes .entry .ptr) (now (roster .entry) .ptr) ⌝ }
+{
+    let mut list = [0u32; 128];
+    match read_head(bytes, 0, &mut list, firsts, seconds) {
+        Heading::Refused(fault) => Sight::Refused(fault),
+        Heading::Found(top) => {
+            let kind = top.kind;
+            let own = top.own;
+            let start = top.roster;
+            let end = start + top.count * 4;
+            *roster = &bytes[start..end];
+            Sight::Seen(kind, own)
         }
     }
 }

@@ -1,5 +1,6 @@
 // Cases of reading and writing records and of lists taken as rosters, each with its answer on a line.
 mod beside;
+mod desk;
 mod lists;
 mod reading;
 mod say;
@@ -47,4 +48,8 @@ fn main() {
     swaps::longest();
     swaps::on_its_roster();
     swaps::on_other_rosters();
+    say::text(b"-- What the ticket desk is shown\n");
+    desk::kept();
+    desk::all_cuts();
+    desk::longest();
 }

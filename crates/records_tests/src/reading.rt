@@ -1,9 +1,10 @@
 // Reading records: the cases stand in the file stdin, one to a line, a name and the record's bytes in hexadecimal. Behind a
 // colon they are read as a stream's, behind a semicolon as a lone record's, behind an equals sign as a stream's for a group
-// with second serials; a line with none of these is a heading.
+// with second serials, and behind an at sign for the ticket desk of that group; a line with none of these is a heading.
 ghost use Prim.Native.Nat.{_≤_};
 ghost use lib.ListN.{length};
 ghost use Rattle.io.specs.Counts.{Counts};
+use crate::desk;
 use crate::say;
 use records::Reading;
 
@@ -131,17 +132,27 @@ fn swapped(name: &[u8], text: &[u8]) {
     say::reading(name, records::read(&bytes[..n], 0, &firsts, &seconds));
 }
 
+// The same, as the ticket desk of that group sees it.
+fn shown(name: &[u8], text: &[u8]) {
+    let mut bytes = [0u8; 64];
+    let n = decode(text, &mut bytes);
+    desk::seen(name, &bytes[..n]);
+}
+
 // One line: a case or a heading.
 fn line(words: &[u8]) {
     let colon = find(words, 0, b':');
     let semicolon = find(words, 0, b';');
     let equals = find(words, 0, b'=');
+    let at = find(words, 0, b'@');
     if colon < words.len() {
         stream(&words[..colon], &words[colon..]);
     } else if semicolon < words.len() {
         lone(&words[..semicolon], &words[semicolon..]);
     } else if equals < words.len() {
         swapped(&words[..equals], &words[equals..]);
+    } else if at < words.len() {
+        shown(&words[..at], &words[at..]);
     } else {
         say::text(words);
         say::text(b"\n");

@@ -4,6 +4,7 @@ use libc::STDOUT_FILENO;
 use places::Place;
 use places::PlaceSet;
 use records::Reading;
+use records::Sight;
 use records::Writing;
 use rosters::Finding;
 use rosters::Listed;
@@ -66,6 +67,38 @@ pub fn reading(name: &[u8], got: Reading) {
             text(b"\n");
         }
     }
+}
+
+fn byte(x: u8) {
+    text(b" ");
+    number(x as usize);
+}
+
+// The bytes of a slice, in order.
+fn bytes(part: &[u8]) {
+    let mut i = 0;
+    while i < part.len() {
+        byte(part[i]);
+        i += 1;
+    }
+    text(b"\n");
+}
+
+pub fn sight(name: &[u8], got: Sight, roster: &[u8]) {
+    title(name);
+    match got {
+        Sight::Refused(fault) => {
+            text(b"refused ");
+            number(fault as usize);
+        }
+        Sight::Seen(k, own) => {
+            kind(k);
+            text(b", own serial ");
+            number(own.0 as usize);
+        }
+    }
+    text(b", part");
+    bytes(roster);
 }
 
 pub fn listed(name: &[u8], got: Listed) {

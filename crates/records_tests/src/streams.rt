@@ -8,7 +8,7 @@ use places::Place;
 use records::Reading;
 
 // 1 where the reading was refused by a number, 0 elsewhere.
-fn one_if(got: Reading, fault: u8) -> usize
+pub fn one_if(got: Reading, fault: u8) -> usize
     ensures { λ r. ⌜ r ≤ 1 ⌝ }
 {
     match got {

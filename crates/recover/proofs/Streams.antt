@@ -15,15 +15,11 @@ use Rattle.rosters.specs.Seconds.{itself}
 use Rattle.records.specs.Layout.{Parsed, got, refused, then, check, byte, wordAt, serial, knownKind, kindOf, kindSection, rosterSerials, rosterSection, isOn, placeOn, headSection, mournedSerials, mournedSection, Stored, stored}
 use Rattle.records.specs.declared.Reading.the-variants.{Read}
 use Rattle.records.specs.Records.{readingOf, reading}
-use Rattle.records.proofs.Layouts.{check-yes, head-back}
+use Rattle.records.proofs.Layouts.{head-back}
+use Rattle.records.proofs.Follows.{onto, then-onto, byte-onto, serial-four, serial-onto}
 use Rattle.recover.specs.declared.window.Window.{Window}
 use Rattle.recover.specs.Windows.{ahead, Inside, Enough}
 use Rattle.recover.proofs.Windows.{length-ahead}
-
--- what a section gives where more bytes follow
-abbrev onto : {A : Type 0} → List ℕ → Parsed A → Parsed A
-onto more (got a rest) = got a (rest ++ more)
-onto more (refused j) = refused j
 
 -- at most k bytes are gone
 abbrev Leaves : {A : Type 0} → ℕ → List ℕ → Parsed A → Type 0
@@ -54,11 +50,8 @@ looks-more {A} {k} {m} {p} l f = record { same = λ s more h. f .same s more (om
 module _ {A B : Type 0} {k m : ℕ} (p : List ℕ → Parsed A) (next : A → List ℕ → Parsed B) (f : Looks k p) where
   then-same : (s more : List ℕ) → k + m ≤ length s → ((a : A) (rest : List ℕ) → p s ≡ got a rest → Looks m (next a)) → then (p (s ++ more)) next ≡ onto more (then (p s) next)
   unfolding then
-  then-same s more h g = rw (f .same s more (omega arith)) (go (p s) refl (f .leaves s (omega arith)))
-    where
-      go : (q : Parsed A) → p s ≡ q → Leaves k s q → then (onto more q) next ≡ onto more (then q next)
-      go (got a rest) e l = g a rest e .same rest more (omega arith)
-      go (refused j) e l = refl
+  then-same s more h g =
+      then-onto more (p (s ++ more)) (p s) next (f .same s more (omega arith)) (λ a rest e. let l : Leaves k s (got a rest) = rw e at (f .leaves s (omega arith)) in g a rest e .same rest more (omega arith))
 
   then-leaves : (s : List ℕ) → k + m ≤ length s → ((a : A) (rest : List ℕ) → p s ≡ got a rest → Looks m (next a)) → Leaves (k + m) s (then (p s) next)
   unfolding then
@@ -79,52 +72,26 @@ module _ {A B : Type 0} {k m : ℕ} (p : List ℕ → Parsed A) (next : A → Li
 
 looks-byte : Looks 1 byte
 unfolding byte
-looks-byte = record { same = same; leaves = leaves }
+looks-byte = record { same = byte-onto; leaves = leaves }
   where
-    same : (s more : List ℕ) → 1 ≤ length s → byte (s ++ more) ≡ onto more (byte s)
-    same [] more h = absurd (omega arith)
-    same (x ∷ s) more h = refl
-
     leaves : (s : List ℕ) → 1 ≤ length s → Leaves 1 s (byte s)
     leaves [] h = absurd (omega arith)
     leaves (x ∷ s) h = omega arith
 
--- four bytes that are there, as a number
-spelt : ℕ → List ℕ → Parsed ℕ
-spelt w t = check (not (eqb w 0)) 4 (got w t)
-
-serial-four : (a b c d : ℕ) (t : List ℕ) → serial (a ∷ b ∷ c ∷ d ∷ t) ≡ spelt (wordAt (a ∷ b ∷ c ∷ d ∷ t) 0) t
-unfolding serial spelt
-serial-four a b c d t = check-yes _ 1 _ (le-leb 4 (suc (suc (suc (suc (length t))))) (omega arith))
-
-spelt-same : (w : ℕ) (t more : List ℕ) → spelt w (t ++ more) ≡ onto more (spelt w t)
-unfolding spelt
-spelt-same w t more = looks-check (not (eqb w 0)) 4 (looks-got w) .same t more (omega arith)
-
-spelt-leaves : (w a b c d : ℕ) (t : List ℕ) → Leaves 4 (a ∷ b ∷ c ∷ d ∷ t) (spelt w t)
-unfolding spelt check
-spelt-leaves w a b c d t = go (not (eqb w 0))
-  where
-    go : (v : Bool) → Leaves 4 (a ∷ b ∷ c ∷ d ∷ t) (check v 4 (got w t))
-    go true = omega arith
-    go false = tt
-
 looks-serial : Looks 4 serial
-looks-serial = record { same = same; leaves = leaves }
+unfolding check
+looks-serial = record { same = serial-onto; leaves = leaves }
   where
-    same : (s more : List ℕ) → 4 ≤ length s → serial (s ++ more) ≡ onto more (serial s)
-    same [] more h = absurd (omega arith)
-    same (a ∷ []) more h = absurd (omega arith)
-    same (a ∷ b ∷ []) more h = absurd (omega arith)
-    same (a ∷ b ∷ c ∷ []) more h = absurd (omega arith)
-    same (a ∷ b ∷ c ∷ d ∷ t) more h = serial-four a b c d (t ++ more) ∙ spelt-same _ t more ∙ ap (onto more) (sym (serial-four a b c d t))
+    spelt : (w a b c d : ℕ) (t : List ℕ) (v : Bool) → Leaves 4 (a ∷ b ∷ c ∷ d ∷ t) (check v 4 (got w t))
+    spelt w a b c d t true = omega arith
+    spelt w a b c d t false = tt
 
     leaves : (s : List ℕ) → 4 ≤ length s → Leaves 4 s (serial s)
     leaves [] h = absurd (omega arith)
     leaves (a ∷ []) h = absurd (omega arith)
     leaves (a ∷ b ∷ []) h = absurd (omega arith)
     leaves (a ∷ b ∷ c ∷ []) h = absurd (omega arith)
-    leaves (a ∷ b ∷ c ∷ d ∷ t) h = rw (serial-four a b c d t) (spelt-leaves (wordAt (a ∷ b ∷ c ∷ d ∷ t) 0) a b c d t)
+    leaves (a ∷ b ∷ c ∷ d ∷ t) h = let w : ℕ = wordAt (a ∷ b ∷ c ∷ d ∷ []) 0 in rw (serial-four a b c d t) (spelt w a b c d t (not (eqb w 0)))
 
 looks-kind : Looks 1 kindSection
 unfolding kindSection
