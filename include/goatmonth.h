@@ -156,6 +156,16 @@ typedef struct gm_record {
     uint64_t next;
 } gm_record;
 
+/* What the ticket desk may see of a record: its kind, its own serial as it stands there (which may be a second one), and the roster's
+ * serials where they lie in the record's own bytes: `length` bytes from `roster` on, four for each serial, highest first. It is good as
+ * long as those bytes are. */
+typedef struct gm_sight {
+    uint64_t kind;
+    uint32_t own;
+    const uint8_t *roster;
+    size_t length;
+} gm_sight;
+
 /* ---- the library: a recovery by its parts ---- */
 
 /* Opens a recovery with nobody back and no second serials: GM_DONE, or 3, then 4 for a zero anywhere, then 5 for a repeat anywhere. */
@@ -226,6 +236,15 @@ uint8_t gm_read(const uint8_t *bytes, size_t length, size_t at, const uint32_t *
 /* The same for bytes that are one record and no more: also 8. */
 uint8_t gm_read_lone(const uint8_t *bytes, size_t length, const uint32_t *firsts, size_t firsts_length, const uint32_t *seconds,
                      size_t seconds_length, uint64_t out[7]);
+
+/*
+ * What the ticket desk may see of a lone record: GM_DONE and four words in `out`, or 1 to 6. The words are its kind, its own serial as
+ * stored, the position where its roster's serials start, and how many they are: `4 * out[3]` bytes from `bytes + out[2]` on. Judged is as
+ * far as the roster's end, as gm_read has it: 3 is for the roster's count and 6 for the own serial. Nothing behind the roster is looked at,
+ * and nothing need be there: whatever stands or does not stand there, answer and words are the same.
+ */
+uint8_t gm_read_desk(const uint8_t *bytes, size_t length, const uint32_t *firsts, size_t firsts_length, const uint32_t *seconds,
+                     size_t seconds_length, uint64_t out[4]);
 
 /* 1 if the `count` serials that start at a position are all there and are this list, else 0. */
 uint8_t gm_roster_is(const uint8_t *bytes, size_t length, size_t at, size_t count, const uint32_t *list, size_t list_length);
@@ -377,6 +396,34 @@ static inline uint8_t gm_recovery_read_lone(const gm_recovery *r, const uint8_t 
     uint64_t words[7] = { 0 };
     uint8_t answer = gm_read_lone(bytes, length, r->serials, count, r->seconds, count, words);
     return gm_record_take(answer, words, out);
+}
+
+static inline uint8_t gm_sight_take(uint8_t answer, const uint64_t words[4], const uint8_t *bytes, gm_sight *out)
+{
+    if (answer == GM_DONE) {
+        out->kind = words[0];
+        out->own = (uint32_t)words[1];
+        out->roster = bytes + words[2];
+        out->length = (size_t)(4 * words[3]);
+    }
+    return answer;
+}
+
+/* What the ticket desk may see of a lone record, of a group without second serials and of a recovery's group. */
+static inline uint8_t gm_record_read_desk(const uint8_t *bytes, size_t length, gm_sight *out)
+{
+    const uint32_t none = 0;
+    uint64_t words[4] = { 0 };
+    uint8_t answer = gm_read_desk(bytes, length, &none, 0, &none, 0, words);
+    return gm_sight_take(answer, words, bytes, out);
+}
+
+static inline uint8_t gm_recovery_read_desk(const gm_recovery *r, const uint8_t *bytes, size_t length, gm_sight *out)
+{
+    size_t count = gm_recovery_count(r);
+    uint64_t words[4] = { 0 };
+    uint8_t answer = gm_read_desk(bytes, length, r->serials, count, r->seconds, count, words);
+    return gm_sight_take(answer, words, bytes, out);
 }
 
 /* Whether the roster of a record that was read from these bytes is this list: 1 or 0. */
