@@ -1,9 +1,9 @@
 -- Reading into the caller's words: what each answer leaves there. Assumes nothing.
-use mathlib.Core.Path.{_≡_, refl, sym, _∙_}
+use mathlib.Core.Path.{_≡_, refl, sym, ap, _∙_}
 use mathlib.Core.List.{List, [], _∷_}
-use Prim.Native.Nat.{ℕ, _/_}
+use Prim.Native.Nat.{ℕ, _*_, _/_}
 use native.Mathlib.Omega.{arith}
-use lib.ListN.{length}
+use lib.ListN.{length, getD, take, drop}
 use Rattle.histories.specs.declared.Kind.{Kind}
 use Rattle.rosters.specs.declared.Serial.{Serial}
 use Rattle.records.specs.Layout.{kindByte}
@@ -12,8 +12,8 @@ use Rattle.records.specs.declared.Reading.{Reading}
 use Rattle.records.specs.declared.Reading.the-variants as R
 use Rattle.records.specs.declared.Sight.{Sight}
 use Rattle.records.specs.declared.Sight.the-variants as T
-use Rattle.records.specs.Desk.{Shown, rosterPart, shownToDesk}
-use Rattle.records.proofs.Desks.{desk-faults, part-whole}
+use Rattle.records.specs.Desk.{Shown, rosterPart, shownToDesk, SameToRoster}
+use Rattle.records.proofs.Desks.{nothing-behind, desk-faults, part-counted, part-long}
 use Rattle.capi.specs.Boundary.{recordWords, readCode, readWords, sightCode, sightWords, shownWords, partTold}
 
 -- the number of an answer, and the words after it
@@ -45,10 +45,18 @@ module _ (alias : ℕ → ℕ) (bytes out : List ℕ) (answer : Sight) (e : answ
   unfolding sightCode sightWords shownWords partTold rosterPart
   sighted-seen kind own part w f p k =
       let is : shownToDesk alias bytes [] .answer ≡ T.Seen kind own = sym e ∙ f in
-      rw (is, p, k) (refl, (refl, λ z. part-whole alias bytes [] kind own is))
+      let n : length (shownToDesk alias bytes [] .roster) / 4 ≡ getD bytes 5 0 = omega (arith, part-long alias bytes [] kind own is) in
+      rw (is, p, k) (refl, (refl, λ z. ap (λ (m : ℕ). take (m * 4) (drop 6 bytes)) n ∙ sym (part-counted alias bytes [] kind own is)))
 
   pub sighted-refused : (j : ℕ) → answer ≡ T.Refused j → Sighted (shownToDesk alias bytes []) bytes out j out
   unfolding sightCode sightWords shownWords
   sighted-refused j f =
       let is : shownToDesk alias bytes [] .answer ≡ T.Refused j = sym e ∙ f in
       rw is (refl, (refl, λ z. absurd (omega (arith, desk-faults alias bytes [] j is .0))))
+
+-- what follows the roster's end changes neither the number nor the words
+pub nothing-told-behind : (alias : ℕ → ℕ) (s t out : List ℕ) → SameToRoster s t
+    → (sightCode (shownToDesk alias s [] .answer) ≡ sightCode (shownToDesk alias t [] .answer)) × (shownWords (shownToDesk alias s []) out ≡ shownWords (shownToDesk alias t []) out)
+nothing-told-behind alias s t out same =
+    let e : shownToDesk alias s [] ≡ shownToDesk alias t [] = nothing-behind alias s t [] same in
+    (ap (λ (x : Shown). sightCode (x .answer)) e, ap (λ (x : Shown). shownWords x out) e)

@@ -2,13 +2,13 @@
 use mathlib.Core.Path.{_≡_, refl, sym, ap, ap₂, _∙_}
 use mathlib.Core.Bool.{not}
 use mathlib.Core.List.{List, [], _∷_, _++_}
-use Prim.Native.Nat.{ℕ, zero, suc, _+_, _-_, _*_, _/_, _≤_, _<_}
+use Prim.Native.Nat.{ℕ, zero, suc, _+_, _-_, _*_, _≤_, _<_}
 use native.Mathlib.Omega.{arith}
 use native.Mathlib.Decide.{decLt}
 use lib.ListN.{length, getD, take, drop, length-append, length-take, length-drop, take-append-drop}
 use lib.Seq.{length-take-le, take-all, take-append-le, drop-append-le, take-take, take-add, take-at, drop-drop, getD-take, getD-drop}
 use lib.Dec.{leb}
-use borrow.Author.Tests.{lt-leb}
+use borrow.Author.Tests.{le-leb, lt-leb}
 use Rattle.places.specs.Sets.{Places, nothing, with}
 use Rattle.places.specs.PlaceSets.{packed}
 use Rattle.rosters.specs.Rosters.{holds}
@@ -19,7 +19,7 @@ use Rattle.rosters.specs.declared.Serial.{Serial}
 use Rattle.histories.specs.declared.Kind.{Kind}
 use Rattle.records.specs.Layout.{Parsed, got, refused, then, check, byte, wordAt, serial, knownKind, kindSection, rosterSerials, rosterSection, isOn, placeOn, Head, headSection, mournedSerials, mournedSection, Stored, stored, lone, kindByte, serialBytes, serialsBytes}
 use Rattle.records.specs.Records.{readingOf, readingLone}
-use Rattle.records.specs.Desk.{rosterPart, shownOf, shownToDesk, rosterEnd, SameToRoster}
+use Rattle.records.specs.Desk.{rosterPart, shownOf, shownToDesk, rosterEnd, nobodyMourned, SameToRoster}
 use Rattle.records.proofs.Sections.{check-no}
 use Rattle.records.proofs.Layouts.{AllBytes, then-got, check-yes, then-back, check-back, byte-back, serial-back, kind-back, length-serialsBytes, Heading, head-back}
 use Rattle.records.proofs.Follows.{onto, check-onto, then-onto, byte-onto, serial-onto}
@@ -83,6 +83,10 @@ part-onto : (n : ℕ) (s more : List ℕ) → 6 + n * 4 ≤ length s → rosterP
 unfolding rosterPart
 part-onto n s more h =
     ap (take (n * 4)) (drop-append-le 6 s more (omega arith)) ∙ take-append-le (n * 4) (drop 6 s) more (omega (arith, length-drop 6 s))
+
+-- the roster's end is where the bytes that the desk is judged by end
+pub ends-there : (alias : ℕ → ℕ) (s : List ℕ) (h : Head) (t : List ℕ) → headSection alias s ≡ got h t → t ≡ drop (rosterEnd s) s
+ends-there alias s h t e = rest-from alias s h t (head-back alias s h t e)
 
 -- what follows the roster's end adds nothing
 shown-onto : (alias : ℕ → ℕ) (s more before : List ℕ) → rosterEnd s ≤ length s → shownToDesk alias (s ++ more) before ≡ shownToDesk alias s before
@@ -172,29 +176,36 @@ sound-seen alias s r before e =
 
 -- ---- a record that is cut
 
--- a section that reads just its first e bytes reads the same where the bytes after them are cut
-cut-got : {A : Type 0} (p : List ℕ → Parsed A) (e : ℕ) (s : List ℕ) → ((more : List ℕ) → p (take e s ++ more) ≡ onto more (p (take e s)))
-    → (a : A) → p s ≡ got a (drop e s) → (j : ℕ) → p (take (e + j) s) ≡ got a (take j (drop e s))
-cut-got {A} p e s same a g j = ap p (take-add e j s) ∙ same (take j (drop e s)) ∙ go (p (take e s)) (sym (same (drop e s)) ∙ ap p (take-append-drop e s) ∙ g)
+-- a section that reads just its first e bytes reads the same whatever follows them
+front-got : {A : Type 0} (p : List ℕ → Parsed A) (e : ℕ) (s : List ℕ) → ((more : List ℕ) → p (take e s ++ more) ≡ onto more (p (take e s)))
+    → (a : A) → p s ≡ got a (drop e s) → (more : List ℕ) → p (take e s ++ more) ≡ got a more
+front-got {A} p e s same a g more = same more ∙ go (p (take e s)) (sym (same (drop e s)) ∙ ap p (take-append-drop e s) ∙ g)
   where
     no-length : (l : List ℕ) → length l ≡ 0 → l ≡ []
     no-length [] e = refl
     no-length (y ∷ ys) e = absurd (omega arith)
 
-    go : (q : Parsed A) → onto (drop e s) q ≡ got a (drop e s) → onto (take j (drop e s)) q ≡ got a (take j (drop e s))
+    go : (q : Parsed A) → onto (drop e s) q ≡ got a (drop e s) → onto more q ≡ got a more
     go (got b l) f =
         let v : b ≡ a = cc in
         let w : l ++ drop e s ≡ drop e s = cc in
         let z : l ≡ [] = no-length l (omega (arith, ap length w, length-append l (drop e s))) in
-        ap₂ (λ (c : A) (m : List ℕ). got c (m ++ take j (drop e s))) v z
+        ap₂ (λ (c : A) (m : List ℕ). got c (m ++ more)) v z
     go (refused i) f = cc
+
+head-front : (alias : ℕ → ℕ) (s : List ℕ) (h : Head) (t : List ℕ) → headSection alias s ≡ got h t → (more : List ℕ) → headSection alias (take (rosterEnd s) s ++ more) ≡ got h more
+head-front alias s h t e =
+    let a = head-back alias s h t e in
+    let n : rosterEnd (take (rosterEnd s) s) ≤ length (take (rosterEnd s) s) =
+    omega (arith, end-take s, length-take-le (rosterEnd s) s (omega (arith, ends alias s h t a, inside alias s h t a))) in
+    front-got (headSection alias) (rosterEnd s) s (λ more. head-onto alias (take (rosterEnd s) s) more n) h (e ∙ ap (got h) (rest-from alias s h t a))
 
 -- a serial that was read, in bytes that are cut after it, or in it
 serial-kept : (s : List ℕ) (x : ℕ) (t : List ℕ) → serial s ≡ got x t → (j : ℕ) → serial (take (4 + j) s) ≡ got x (take j t)
 serial-kept s x t e j =
     let v = serial-back s x t e in
     let l : 4 ≤ length (take 4 s) = omega (arith, length-take-le 4 s (v .0)) in
-    cut-got serial 4 s (λ more. serial-onto (take 4 s) more l) x (e ∙ ap (got x) (v .3)) j ∙ ap (λ (m : List ℕ). got x (take j m)) (sym (v .3))
+    ap serial (take-add 4 j s) ∙ front-got serial 4 s (λ more. serial-onto (take 4 s) more l) x (e ∙ ap (got x) (v .3)) (take j (drop 4 s)) ∙ ap (λ (m : List ℕ). got x (take j m)) (sym (v .3))
 
 serial-cut : (s : List ℕ) (j : ℕ) → j < 4 → serial (take j s) ≡ refused 1
 unfolding serial
@@ -235,7 +246,7 @@ mourned-cut alias r (m ∷ s) P (suc j) e l =
     let c = check-back (leb m (length r)) 3 (mournedSerials alias m r 0 nothing s) P [] e in
     check-yes _ 3 _ (c .0) ∙ serials-cut alias m r 0 nothing s P j (c .1) (omega arith)
 
--- and one that is cut anywhere in its mourned section, at the count or later, shows the desk the same; who reads it all meets 1
+-- a sound record that is cut anywhere in its mourned section, at the count or later, shows the desk the same, and whoever reads it all meets 1
 pub record Cut (alias : ℕ → ℕ) (s before : List ℕ) (r : Record) (k : ℕ) : Type 0 where
   pub seen : shownToDesk alias (take k s) before ≡ record { answer = S.Seen (r .kind) (record { 0 = wordAt s 1 }); roster = rosterPart (r .count) s }
   pub unread : readingLone alias (take k s) ≡ R.Refused 1
@@ -247,11 +258,10 @@ lone-cut alias s r k p f l =
     let t : List ℕ = p .rest in
     let e : ℕ = rosterEnd s in
     let d : t ≡ drop e s = rest-from alias s h t (head-back alias s h t (p .headed)) in
-    let n : rosterEnd (take e s) ≤ length (take e s) = omega (arith, end-take s, length-take-le e s (omega arith)) in
     let i : e + (k - e) ≡ k = omega arith in
     let kept : headSection alias (take k s) ≡ got h (take (k - e) t) =
-    ap (λ (m : ℕ). headSection alias (take m s)) (sym i)
-    ∙ cut-got (headSection alias) e s (λ more. head-onto alias (take e s) more n) h (p .headed ∙ ap (got h) d) (k - e) ∙ ap (λ (m : List ℕ). got h (take (k - e) m)) (sym d) in
+    ap (λ (m : ℕ). headSection alias (take m s)) (sym i) ∙ ap (headSection alias) (take-add e (k - e) s) ∙ head-front alias s h t (p .headed) (take (k - e) (drop e s))
+    ∙ ap (λ (m : List ℕ). got h (take (k - e) m)) (sym d) in
     then-refused _ 1 (then-got _ h (take (k - e) t) kept
     ∙ then-refused _ 1 (mourned-cut alias (h .roster) t (p .mourned) (k - e) (p .ended) (omega (arith, ap length d, length-drop e s))))
 
@@ -274,36 +284,62 @@ desk-refused alias s before j e = go (headSection alias s) e
     go (got h t) f = let z : _≡_ {A = ℕ} 0 1 = cc in absurd (omega arith)
     go (refused i) f = cc
 
--- what the desk is refused, the reader of it all is refused by the same number
+-- what the desk is refused, whoever reads it all is refused by the same number
 pub refused-both : (alias : ℕ → ℕ) (s before : List ℕ) (j : ℕ) → shownToDesk alias s before .answer ≡ S.Refused j → readingLone alias s ≡ R.Refused j
 unfolding readingLone readingOf lone stored
 refused-both alias s before j e = ap (readingOf (length s) 0) (then-refused _ j (then-refused _ j (desk-refused alias s before j e)))
 
--- and that is 1 to 6
+-- the desk is refused by 1 to 6
 pub desk-faults : (alias : ℕ → ℕ) (s before : List ℕ) (j : ℕ) → shownToDesk alias s before .answer ≡ S.Refused j → (1 ≤ j) × (j ≤ 6)
 desk-faults alias s before j e = head-faults alias s j (desk-refused alias s before j e)
 
--- ---- what is handed back
-
--- the part is whole: it has four bytes for each serial
-pub part-whole : (alias : ℕ → ℕ) (s before : List ℕ) (k : Kind) (own : Serial) → shownToDesk alias s before .answer ≡ S.Seen k own
-    → rosterPart (length (shownToDesk alias s before .roster) / 4) s ≡ shownToDesk alias s before .roster
-unfolding shownToDesk shownOf rosterPart
-part-whole alias s before k own e = go (headSection alias s) refl e
+-- what was seen, as the head that was read
+seen-head : (alias : ℕ → ℕ) (s before : List ℕ) (k : Kind) (own : Serial) → shownToDesk alias s before .answer ≡ S.Seen k own → (h : Head) × (t : List ℕ) × (headSection alias s ≡ got h t)
+unfolding shownToDesk shownOf
+seen-head alias s before k own e = go (headSection alias s) refl e
   where
-    go : (p : Parsed Head) → headSection alias s ≡ p → shownOf s before p .answer ≡ S.Seen k own
-        → take (length (shownOf s before p .roster) / 4 * 4) (drop 6 s) ≡ shownOf s before p .roster
-    go (got h t) f g =
-        let n : ℕ = length (h .roster) in
-        let l : length (take (n * 4) (drop 6 s)) ≡ n * 4 =
-        length-take-le (n * 4) (drop 6 s) (omega (arith, length-drop 6 s, inside alias s h t (head-back alias s h t f))) in
-        let q : length (take (n * 4) (drop 6 s)) / 4 * 4 ≡ n * 4 = omega (arith, l) in
-        ap (λ (m : ℕ). take m (drop 6 s)) q
+    go : (p : Parsed Head) → headSection alias s ≡ p → shownOf s before p .answer ≡ S.Seen k own → (h : Head) × (t : List ℕ) × (headSection alias s ≡ got h t)
+    go (got h t) f g = (h, t, f)
     go (refused j) f g = let z : _≡_ {A = ℕ} 0 1 = cc in absurd (omega arith)
 
--- the part that is handed back is the bytes of the roster's serials, and no others
-pub part-bytes : (alias : ℕ → ℕ) (s : List ℕ) (h : Head) (t : List ℕ) → AllBytes s → headSection alias s ≡ got h t → rosterPart (length (h .roster)) s ≡ serialsBytes (h .roster)
-unfolding rosterPart serialBytes
-part-bytes alias s h t b e =
-    ap (λ (l : List ℕ). take (length (h .roster) * 4) (drop 6 l)) (head-bytes alias s h t (head-back alias s h t e) b)
+-- the desk is shown something only where the record would pass 1 to 8 with nobody mourned
+pub seen-sound : (alias : ℕ → ℕ) (s before : List ℕ) (k : Kind) (own : Serial) → shownToDesk alias s before .answer ≡ S.Seen k own
+    → (r : Record) × (readingLone alias (nobodyMourned s) ≡ R.Read r)
+unfolding readingLone readingOf lone stored mournedSection mournedSerials byte then check nobodyMourned
+seen-sound alias s before k own e =
+    let w = seen-head alias s before k own e in
+    let h : Head = w .0 in
+    let x : Stored = record { kind = h .kind; own = h .place; roster = h .roster; mourned = nothing } in
+    let mourned : mournedSection alias (h .roster) (0 ∷ []) ≡ got nothing [] = check-yes _ 3 _ (le-leb 0 (length (h .roster)) (omega arith)) in
+    let whole : stored alias (nobodyMourned s) ≡ got x [] =
+    then-got _ h (0 ∷ []) (head-front alias s h (w .1) (w .2) (0 ∷ [])) ∙ then-got _ nothing [] mourned in
+    (_, ap (readingOf (length (nobodyMourned s)) 0) (then-got _ x [] whole))
+
+-- ---- what is handed back
+
+-- the part is that of as many serials as the roster's count says, and it is all there
+module _ (alias : ℕ → ℕ) (s before : List ℕ) (k : Kind) (own : Serial) (e : shownToDesk alias s before .answer ≡ S.Seen k own) where
+  counted : (h : Head) (t : List ℕ) → headSection alias s ≡ got h t → length (h .roster) ≡ getD s 5 0
+  unfolding rosterEnd
+  counted h t f = omega (arith, ends alias s h t (head-back alias s h t f))
+
+  pub part-counted : shownToDesk alias s before .roster ≡ rosterPart (getD s 5 0) s
+  unfolding shownToDesk shownOf
+  part-counted =
+      let w = seen-head alias s before k own e in
+      ap (λ (p : Parsed Head). shownOf s before p .roster) (w .2) ∙ ap (λ (n : ℕ). rosterPart n s) (counted (w .0) (w .1) (w .2))
+
+  pub part-long : length (shownToDesk alias s before .roster) ≡ getD s 5 0 * 4
+  unfolding rosterPart
+  part-long =
+      let w = seen-head alias s before k own e in
+      let l : 6 + getD s 5 0 * 4 ≤ length s = omega (arith, inside alias s (w .0) (w .1) (head-back alias s (w .0) (w .1) (w .2)), counted (w .0) (w .1) (w .2)) in
+      ap length part-counted ∙ length-take-le (getD s 5 0 * 4) (drop 6 s) (omega (arith, length-drop 6 s))
+
+-- and what is handed back is the bytes of the roster's serials, and no others
+pub part-bytes : (alias : ℕ → ℕ) (s before : List ℕ) (h : Head) (t : List ℕ) → AllBytes s → headSection alias s ≡ got h t → shownToDesk alias s before .roster ≡ serialsBytes (h .roster)
+unfolding shownToDesk shownOf rosterPart serialBytes
+part-bytes alias s before h t b e =
+    ap (λ (p : Parsed Head). shownOf s before p .roster) e
+    ∙ ap (λ (l : List ℕ). take (length (h .roster) * 4) (drop 6 l)) (head-bytes alias s h t (head-back alias s h t e) b)
     ∙ take-at (serialsBytes (h .roster)) t (length (h .roster) * 4) (omega (arith, length-serialsBytes (h .roster)))

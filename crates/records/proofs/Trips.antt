@@ -17,7 +17,7 @@ use Rattle.rosters.specs.Rosters.{placeOf}
 use Rattle.rosters.specs.Seconds.{itself, standsFor}
 use Rattle.rosters.proofs.Seconds.{stands-plain}
 use Rattle.records.specs.declared.Reading.the-variants as R
-use Rattle.records.specs.Layout.{Parsed, got, refused, then, check, byte, wordAt, serial, kindSection, rosterSerials, rosterSection, placeOn, Head, headSection, mournedSerials, mournedSection, Stored, stored, lone, kindByte, serialBytes, serialsBytes, chosen, layout}
+use Rattle.records.specs.Layout.{Parsed, got, refused, then, check, byte, serial, kindSection, rosterSerials, rosterSection, placeOn, Head, headSection, mournedSerials, mournedSection, Stored, stored, lone, kindByte, serialBytes, serialsBytes, chosen, layout}
 use Rattle.records.specs.Records.{readingOf, reading, serials, putAt}
 use Rattle.records.proofs.Serials.{roster-apart, place-own}
 use Rattle.records.proofs.Layouts.{AllBytes, IsStored, bytes-drop, then-got, check-yes, then-back, check-back, word-bytes, serials-below, serials-bytes, serial-read, kind-read, roster-read, chosen-at-most, chosen-all, own-place, mourned-read, Mourning, Heading, headOf, Whole, stored-back, layout-shape, length-layout, length-put, drop-put}
@@ -40,7 +40,7 @@ module _ (alias : ℕ → ℕ) (s : List ℕ) (k : Head) (t : List ℕ) (a : Hea
   roster-below : (p : ℕ) → p < length (k .roster) → getD (k .roster) p 0 < 2 ^ 32
   roster-below p l = subst (λ (r : List ℕ). getD r p 0 < 2 ^ 32) (sym (a .are)) (serials-below (length (k .roster)) (a .from-serials) roster-bytes p l)
 
-  -- its bytes are those of its parts, but for the own serial: there stands one that stands for the own place's
+  -- its bytes are those of its parts
   pub head-bytes : s ≡ kindByte (k .kind) ∷ (serialBytes (k .own) ++ (length (k .roster) ∷ (serialsBytes (k .roster) ++ t)))
   head-bytes =
       let n : ℕ = length (k .roster) in

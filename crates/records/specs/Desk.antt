@@ -2,7 +2,7 @@
 -- their count, as a part of the lent bytes. Whoever reads it all reads these sections first, and judges them alike (`Layout.antt`).
 -- Assumes nothing.
 use mathlib.Core.Path.{_≡_}
-use mathlib.Core.List.{List}
+use mathlib.Core.List.{List, [], _∷_, _++_}
 use Prim.Native.Nat.{ℕ, _+_, _*_}
 use lib.ListN.{length, getD, take, drop}
 use Rattle.records.specs.declared.Sight.{Sight}
@@ -36,6 +36,10 @@ liesOf (S.Refused j) bytes before = before
 -- where the roster of a record ends, by its count
 unfoldable pub rosterEnd : List ℕ → ℕ
 rosterEnd s = 6 + getD s 5 0 * 4
+
+-- the same record with nobody mourned
+unfoldable pub nobodyMourned : List ℕ → List ℕ
+nobodyMourned s = take (rosterEnd s) s ++ (0 ∷ [])
 
 -- two records are the same as far as the roster's end: after it they may differ in bytes and in length
 abbrev pub SameToRoster : List ℕ → List ℕ → Type 0

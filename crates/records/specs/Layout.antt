@@ -68,7 +68,7 @@ isOn alias r x = holds (standsFor alias r x) r
 abbrev pub placeOn : (ℕ → ℕ) → List ℕ → ℕ → ℕ
 placeOn alias r x = placeOf (standsFor alias r x) r
 
--- a record as far as the roster's end: its own serial is the one that is stored, and `place` where that stands on the roster
+-- a record as far as the roster's end: its own serial is the one that is stored, and `place` the place that it stands for
 pub record Head : Type 0 where
   pub kind : Kind
   pub own : ℕ

@@ -47,8 +47,8 @@ fn one_if_seen(got: Sight) -> usize
     }
 }
 
-// 1 where the desk is shown something of bytes that are refused by a number, 0 elsewhere.
-fn one_if(bytes: &[u8], fault: u8) -> usize
+// 1 where the desk is shown something of bytes that `read_lone` refuses by a number, 0 elsewhere.
+fn shown_but_refused(bytes: &[u8], fault: u8) -> usize
     ensures { λ r. ⌜ r ≤ 1 ⌝ }
 {
     let list = [0u32; 1];
@@ -61,12 +61,12 @@ fn one_if(bytes: &[u8], fault: u8) -> usize
     streams::one_if(reading::read_lone(bytes), fault)
 }
 
-// How many cuts of the bytes, from none of them on, are so.
+// How many cuts of the bytes, from none of them on, are shown to the desk and so refused.
 fn cuts(bytes: &[u8], fault: u8) -> usize {
     let mut n = 0;
     let mut k = 0;
     while k < bytes.len() {
-        let one = one_if(&bytes[..k], fault);
+        let one = shown_but_refused(&bytes[..k], fault);
         n += one;
         k += 1;
     }
@@ -78,24 +78,24 @@ pub fn all_cuts() {
     let bytes =
         b"\x02\x00\x00\x00\x09\x03\x00\x00\x00\x07\x00\x00\x00\x09\x00\x00\x00\x0c\x02\x00\x00\x00\x07\x00\x00\x00\x0c";
     for fault in 1u8..9 {
-        say::text(b"cuts that the desk is shown and that are refused by ");
+        say::text(b"cuts that the desk is shown and read_lone refuses by ");
         say::number(fault as usize);
         say::count(b"", cuts(bytes, fault));
     }
 }
 
 // The first n bytes of a record for a group without second serials: whether they are shown, and how long the part is.
-fn first(name: &[u8], bytes: &[u8], n: usize) {
+fn front(name: &[u8], bytes: &[u8], n: usize) {
     if bytes.len() < n {
         return;
     }
-    let front = &bytes[..n];
+    let those = &bytes[..n];
     let list = [0u32; 1];
     let none = &list[..0];
-    let mut roster = &front[..0];
-    let got = records::read_desk(front, none, none, &mut roster);
+    let mut roster = &those[..0];
+    let got = records::read_desk(those, none, none, &mut roster);
     say::count(name, one_if_seen(got));
-    say::count(b"and its part has", roster.len());
+    say::count(b"bytes in its part", roster.len());
 }
 
 // The longest record, cut at its roster's end, and one byte before.
@@ -105,7 +105,7 @@ pub fn longest() {
     let mut out = [0u8; 1031];
     let all = places::below(128);
     writes::write(Kind::Full, Place(127), &list, all, &mut out, 0);
-    first(b"the longest record is shown", &out, 1031);
-    first(b"cut at its roster's end", &out, 518);
-    first(b"cut one byte earlier", &out, 517);
+    front(b"the longest record is shown", &out, 1031);
+    front(b"cut at its roster's end", &out, 518);
+    front(b"cut one byte earlier", &out, 517);
 }

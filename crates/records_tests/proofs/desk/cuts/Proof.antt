@@ -17,11 +17,11 @@ abbrev μ-loop : tie.MeasureT-loop
 loop-holds : tie.Need-loop-holds Inv-loop μ-loop
 loop-holds c = search needs
 
-slice-aggregate-one-if : tie.Need-slice-aggregate-one-if Inv-loop μ-loop
-slice-aggregate-one-if c = sym (length-take-le _ _ (omega arith))
+slice-aggregate-shown-but-refused : tie.Need-slice-aggregate-shown-but-refused Inv-loop μ-loop
+slice-aggregate-shown-but-refused c = sym (length-take-le _ _ (omega arith))
 
-one-if-requires : tie.Need-one-if-requires Inv-loop μ-loop
-one-if-requires c κs = search needs
+shown-but-refused-requires : tie.Need-shown-but-refused-requires Inv-loop μ-loop
+shown-but-refused-requires c κs = search needs
 
 add-n : tie.Need-add-n Inv-loop μ-loop
 add-n c = search needs
@@ -45,8 +45,8 @@ cuts-spec =
     Inv-loop
     μ-loop
     loop-holds
-    slice-aggregate-one-if
-    one-if-requires
+    slice-aggregate-shown-but-refused
+    shown-but-refused-requires
     add-n
     add-k
     loop-less

@@ -1,16 +1,16 @@
--- `desk::first` is safe. Assumes nothing.
+-- `desk::front` is safe. Assumes nothing.
 use mathlib.Core.Path.{sym}
 use native.Mathlib.Omega.{arith}
 use lib.Seq.{length-take-le}
 use borrow.Author.Needs.{needs}
-use Rattle.records_tests.proofs.desk.first.Statement.{statement}
-use Rattle.records_tests.proofs.desk.first.Tie as tie
+use Rattle.records_tests.proofs.desk.front.Statement.{statement}
+use Rattle.records_tests.proofs.desk.front.Tie as tie
 
 returns : tie.Need-returns
 returns c = search needs
 
-slice-aggregate-front : tie.Need-slice-aggregate-front
-slice-aggregate-front c = sym (length-take-le _ _ (omega arith))
+slice-aggregate-those : tie.Need-slice-aggregate-those
+slice-aggregate-those c = sym (length-take-le _ _ (omega arith))
 
 array-share-prefix-list : tie.Need-array-share-prefix-list
 array-share-prefix-list c = search needs
@@ -39,12 +39,12 @@ count-requires-2 c κs = search needs
 returns-2 : tie.Need-returns-2
 returns-2 c = search needs
 
-pub first-spec : {M : Type 1} → statement M
-first-spec =
+pub front-spec : {M : Type 1} → statement M
+front-spec =
     tie.close
     (tie.spec
     returns
-    slice-aggregate-front
+    slice-aggregate-those
     array-share-prefix-list
     slice-aggregate-none
     slice-aggregate-roster
