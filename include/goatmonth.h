@@ -239,9 +239,9 @@ uint8_t gm_read_lone(const uint8_t *bytes, size_t length, const uint32_t *firsts
 
 /*
  * What the ticket desk may see of a lone record: GM_DONE and four words in `out`, or 1 to 6. The words are its kind, its own serial as
- * stored, the position where its roster's serials start, and how many they are: `4 * out[3]` bytes from `bytes + out[2]` on. Judged is as
- * far as the roster's end, as gm_read has it: 3 is for the roster's count and 6 for the own serial. Nothing behind the roster is looked at,
- * and nothing need be there: whatever stands or does not stand there, answer and words are the same.
+ * stored, the position where its roster's serials start, and how many they are: `4 * out[3]` bytes from `bytes + out[2]` on. It is judged
+ * as far as the roster's end, as gm_read has it: 3 is for the roster's count and 6 for the own serial. Nothing behind the roster is looked
+ * at, and nothing need be there: whatever follows, answer and words are the same.
  */
 uint8_t gm_read_desk(const uint8_t *bytes, size_t length, const uint32_t *firsts, size_t firsts_length, const uint32_t *seconds,
                      size_t seconds_length, uint64_t out[4]);
@@ -409,7 +409,7 @@ static inline uint8_t gm_sight_take(uint8_t answer, const uint64_t words[4], con
     return answer;
 }
 
-/* What the ticket desk may see of a lone record, of a group without second serials and of a recovery's group. */
+/* What the ticket desk may see of a lone record, of a group without second serials. */
 static inline uint8_t gm_record_read_desk(const uint8_t *bytes, size_t length, gm_sight *out)
 {
     const uint32_t none = 0;
@@ -418,6 +418,7 @@ static inline uint8_t gm_record_read_desk(const uint8_t *bytes, size_t length, g
     return gm_sight_take(answer, words, bytes, out);
 }
 
+/* The same where the record may use the second serials of a recovery's group. */
 static inline uint8_t gm_recovery_read_desk(const gm_recovery *r, const uint8_t *bytes, size_t length, gm_sight *out)
 {
     size_t count = gm_recovery_count(r);
