@@ -1,8 +1,8 @@
 /*
  * Goatmonth: which controllers of a group stopped last, told from the records that the returned ones stored.
  *
- * The functions are proved code in a static library (`rt staticlib capi` writes target/staticlib/libcapi.a). They use no heap and no
- * threads, and keep nothing between calls: a recovery, and a day, is a plain struct in the caller's memory, made by opening it and
+ * The functions are proved code in three static libraries (`rt staticlib NAME` writes target/staticlib/libNAME.a): capi has those of a
+ * recovery, capi_records those of stored records by themselves, capi_days those of a day. They use no heap and no threads, and keep nothing between calls: a recovery, and a day, is a plain struct in the caller's memory, made by opening it and
  * handed to every call. Copy it, store it or compare it as you like; calls on different structs may run at the same time.
  *
  * What the caller promises of each call:

@@ -32,7 +32,8 @@ use Rattle.recovery.proofs.Calls.{asked-off, checked-short, checked-off, checke
 use Rattle.recovery.proofs.Gives.{askedOf, asked-on, absent-set, count-set}
 use Rattle.capi.specs.declared.Head.{Head}
 use Rattle.capi.specs.declared.FoundNow.{FoundNow}
-use Rattle.capi.specs.Boundary.{setAt, setWords, recoveryIn, askedCode, showingCode, listingCode, checkedCode, yesCode, foundOf, givingCode, wordsOf}
+use Rattle.words.specs.Words.{setAt, setWords, yesCode}
+use Rattle.capi.specs.Boundary.{recoveryIn, askedCode, showingCode, listingCode, checkedCode, foundOf, givingCode, wordsOf}
 
 -- what nine words say
 abbrev pub Says : List ℕ → Head → Type 0

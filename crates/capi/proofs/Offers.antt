@@ -24,7 +24,8 @@ use Rattle.recovery.specs.declared.Offered.{Offered}
 use Rattle.recovery.specs.Contracts.{saying, keepingFull, keepingRow, keeping, answered, offered}
 use Rattle.recovery.proofs.Offers.{offered-read, offered-unread}
 use Rattle.capi.specs.declared.Head.{Head}
-use Rattle.capi.specs.Boundary.{setAt, recoveryIn, headWords, headOf, replyCode, offeredHeld}
+use Rattle.words.specs.Words.{setAt}
+use Rattle.capi.specs.Boundary.{recoveryIn, headWords, headOf, replyCode, offeredHeld}
 use Rattle.capi.proofs.Calls.{Says, held}
 
 -- the words of the recovery in memory are those in memory

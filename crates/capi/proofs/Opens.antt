@@ -5,10 +5,7 @@ use Prim.Native.Nat.{ℕ}
 use Rattle.recovery.specs.declared.Opened.{Opened}
 use Rattle.recovery.specs.declared.Opening.the-variants as G
 use Rattle.recovery.specs.Contracts.{opened}
-use Rattle.executions.specs.declared.Begun.{Begun}
-use Rattle.executions.specs.declared.Opening.the-variants as B
-use Rattle.executions.specs.Contracts.{begun}
-use Rattle.capi.specs.Boundary.{headWords, headOf, dayHeadOf, openedAs, openedHeld, begunAs, begunHeld}
+use Rattle.capi.specs.Boundary.{headWords, headOf, openedAs, openedHeld}
 
 module _ (s head serials seconds rows : List ℕ) where
   -- the number, the words, the serials, first and second, and the rows are those of opening
@@ -30,21 +27,3 @@ module _ (s head serials seconds rows : List ℕ) where
     pub opens-refused : (j : ℕ) → o .answer ≡ G.Refused j → Opens j head serials seconds rows
     unfolding openedHeld openedAs
     opens-refused j e = rw (← is, e) (refl, (refl, (refl, (refl, refl))))
-
-module _ (kind : ℕ) (s head serials rows : List ℕ) where
-  -- the same for a day, which has no second serials
-  abbrev pub Begins : ℕ → List ℕ → List ℕ → List ℕ → Type 0
-  Begins c h a t =
-      (c ≡ begunHeld kind s head serials rows .code)
-      × ((h ≡ begunHeld kind s head serials rows .head)
-      × ((a ≡ begunHeld kind s head serials rows .serials) × (t ≡ begunHeld kind s head serials rows .rows))
-      )
-
-  module _ (o : Begun) (is : o ≡ begun kind s) where
-    pub begins-done : o .answer ≡ B.Opened → (h : List ℕ) → h ≡ dayHeadOf (o .day .kind) (o .day .count) (o .day .stopped) → Begins 0 h (o .day .serials) (o .day .rows)
-    unfolding begunHeld begunAs
-    begins-done e h f = rw (← is, e) (refl, (f, (refl, refl)))
-
-    pub begins-refused : (j : ℕ) → o .answer ≡ B.Refused j → Begins j head serials rows
-    unfolding begunHeld begunAs
-    begins-refused j e = rw (← is, e) (refl, (refl, (refl, refl)))

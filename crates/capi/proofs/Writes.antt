@@ -1,26 +1,21 @@
 -- Writing a record from the caller's memory: one law for each way in which the code returns. Assumes nothing.
-use mathlib.Core.Path.{_≡_, refl, ap, _∙_, subst}
+use mathlib.Core.Path.{_≡_, subst}
 use mathlib.Core.Bool.{true, false}
 use mathlib.Core.List.{List}
 use Prim.Native.Nat.{ℕ, _≤_, _<_}
 use lib.ListN.{length, take}
-use borrow.Author.Tests.{ne-eqb}
-use Rattle.places.specs.Sets.{Places}
 use Rattle.places.specs.PlaceSets.{has}
 use Rattle.places.specs.declared.PlaceSet.{PlaceSet}
 use Rattle.histories.specs.declared.Kind.{Kind}
-use Rattle.histories.specs.declared.Kind.the-variants.{Full, Short}
 use Rattle.answers.specs.Views.{size, kindIn, recordedIn}
-use Rattle.records.specs.Layout.{knownKind, kindOf}
 use Rattle.records.specs.declared.Writing.{Writing}
 use Rattle.records.specs.declared.Writing.the-variants as W
-use Rattle.records.specs.Records.{Written, unwritten, written}
+use Rattle.records.specs.Records.{written}
 use Rattle.recovery.specs.declared.Recovery.{Recovery}
 use Rattle.recovery.specs.Contracts.{sizeOf, writtenOf}
 use Rattle.recovery.proofs.Writes.{Leaves, write-12, write-14, write-back}
 use Rattle.capi.specs.declared.Head.{Head}
-use Rattle.capi.specs.declared.End.{End}
-use Rattle.capi.specs.Boundary.{recoveryIn, endOf, writtenParts}
+use Rattle.capi.specs.Boundary.{recoveryIn}
 use Rattle.capi.proofs.Calls.{Says, partsOf, held}
 
 -- ---- the record of a returned place
@@ -54,28 +49,3 @@ module _ (head : List ℕ) (h : Head) (says : Says head h) (serials rows : List 
         → Backs a after
     unfolding sizeOf
     back-written b n is all row e k f a after w = backs a after (λ s. write-back (partsOf h serials s rows) p out at l b n is all row e k f a after w)
-
--- ---- where it ends, as two words
-
--- the end and the buffer are those of a writing
-abbrev pub Ends : Written → End → List ℕ → Type 0
-Ends w e after = (e ≡ endOf (w .answer)) × (after ≡ w .buffer)
-
-pub ends : (w : Written) (a : Writing) (e : End) (after : List ℕ) → e ≡ endOf a → (a ≡ w .answer) × (after ≡ w .buffer) → Ends w e after
-ends w a e after is (f, g) = (is ∙ ap endOf f, g)
-
--- ---- a record from its parts
-
-module _ (kind own : ℕ) (roster : List ℕ) (M : Places) (out : List ℕ) (at : ℕ) where
-  module _ (a : Writing) (e : End) (after : List ℕ) (is : e ≡ endOf a) where
-    pub lays-full : kind ≡ 1 → (a ≡ written Full own roster M out at .answer) × (after ≡ written Full own roster M out at .buffer) → Ends (writtenParts kind own roster M out at) e after
-    unfolding writtenParts knownKind kindOf
-    lays-full k w = rw k (ends (written Full own roster M out at) a e after is w)
-
-    pub lays-short : kind ≡ 2 → (a ≡ written Short own roster M out at .answer) × (after ≡ written Short own roster M out at .buffer) → Ends (writtenParts kind own roster M out at) e after
-    unfolding writtenParts knownKind kindOf
-    lays-short k w = rw k (ends (written Short own roster M out at) a e after is w)
-
-  pub lays-none : (kind ≡ 1 → ⊥) → (kind ≡ 2 → ⊥) → Ends (writtenParts kind own roster M out at) (record { refusal = 2; next = 0 }) out
-  unfolding writtenParts knownKind unwritten endOf
-  lays-none a b = rw (ne-eqb kind 1 a, ne-eqb kind 2 b) (refl, refl)

@@ -1,7 +1,7 @@
 -- `capi::gm_write` meets its contract. Assumes nothing.
 use mathlib.Core.Path.{ap, _∙_}
 use borrow.Author.Needs.{needs}
-use Rattle.capi.specs.Boundary.{endOf}
+use Rattle.words.specs.Words.{endOf}
 use Rattle.capi.proofs.gm_write.Statement.{statement}
 use Rattle.capi.proofs.gm_write.Tie as tie
 

@@ -1,6 +1,6 @@
 -- `capi::put_set` meets its contract. Assumes nothing.
 use mathlib.Core.Path.{refl}
-use Rattle.capi.specs.Boundary.{setWords}
+use Rattle.words.specs.Words.{setWords}
 use Rattle.capi.proofs.put_set.Statement.{statement}
 use Rattle.capi.proofs.put_set.Tie as tie
 

@@ -1,7 +1,7 @@
 -- `capi::read_head` meets its contract. Assumes nothing.
 use mathlib.Core.Path.{refl}
 use borrow.Author.Needs.{needs}
-use Rattle.capi.specs.Boundary.{setAt}
+use Rattle.words.specs.Words.{setAt}
 use Rattle.capi.proofs.read_head.Statement.{statement}
 use Rattle.capi.proofs.read_head.Tie as tie
 
