@@ -141,8 +141,8 @@ pub fn before(rows: &Rows, returned: PlaceSet, count: usize, place: Place) -> Pl
     reached(rows, returned, count, row)
 }
 
-// The places of the roster that are neither back nor before a returned full one.
-fn unheard(returned: PlaceSet, earlier: PlaceSet, count: usize) -> PlaceSet
+// The places of the roster that are neither back nor before a returned full one: no others block.
+pub fn unheard(returned: PlaceSet, earlier: PlaceSet, count: usize) -> PlaceSet
     ensures { λ r. ⌜ has r ≡ sets.difference (sets.difference (sets.below (size count)) (has returned)) (has earlier) ⌝ }
 {
     let all = roster(count);

@@ -153,33 +153,32 @@ blocks n A i b e =
 
 -- ---- not mourned and without a blocker: last
 
-unblocked-last : {n : ℕ} {A : Accepted} {H : History} → Fits n A H → (i : ℕ) → mourned n A i ≡ false → any n (blockers n A i) ≡ false → Last H i
+-- whoever heard an unmourned place, in some history that fits, blocks it
+pub heard-blocks : {n : ℕ} {A : Accepted} {H : History} → Fits n A H → (i p : ℕ) → mourned n A i ≡ false → H p i ≡ true → blockers n A i p ≡ true
 unfolding blockers
-unblocked-last {n} {A} {H} f i u a p = is-false (H p i) (λ t. go t (split (A .returned p)))
+heard-blocks {n} {A} {H} f i p u t = go (split (A .returned p))
   where
     -- an absent place before i did not hear i, nor did one before a returned full place, whose row would have i
-    earlier : H p i ≡ true → before n A i p ≡ true → ⊥
-    earlier t c = f .history .acyclic i (before-trans (heard t) (before-mono (recorded-sub f) (before-out n A i p c)))
+    earlier : before n A i p ≡ true → ⊥
+    earlier c = f .history .acyclic i (before-trans (heard t) (before-mono (recorded-sub f) (before-out n A i p c)))
 
-    told : H p i ≡ true → beforeFull n A p ≡ true → ⊥
-    told t c =
+    told : beforeFull n A p ≡ true → ⊥
+    told c =
         let r = before-full-out n A p c in
         let m = r .0 in
         let b = full-back-elim A m (r .1) in
         clash (mourned-intro f m i (recorded-sup f m i (b .0) (f .duty m (b .0) (b .1) i (through t (before-mono (recorded-sub f) (r .2)))))) u
 
-    go : H p i ≡ true → (A .returned p ≡ true) ⊎ (A .returned p ≡ false) → ⊥
-    go t (inl b) = clash (mourned-intro f p i (recorded-sup f p i b t)) u
-    go t (inr b) =
-        clash
-        (minus-intro (minus-intro (minus-intro (minus-intro (lt-ltb p n on) other) b) (is-false (before n A i p) (earlier t))) (is-false (beforeFull n A p) (told t)))
-        (any-none n (blockers n A i) a p on)
+    go : (A .returned p ≡ true) ⊎ (A .returned p ≡ false) → blockers n A i p ≡ true
+    go (inl b) = clash (mourned-intro f p i (recorded-sup f p i b t)) u
+    go (inr b) =
+        minus-intro (minus-intro (minus-intro (minus-intro (lt-ltb p n (f .history .inside p i t .0)) other) b) (is-false (before n A i p) earlier)) (is-false (beforeFull n A p) told)
       where
-        on : p < n
-        on = f .history .inside p i t .0
-
         other : eqb p i ≡ false
         other = ne-eqb p i (λ e. f .history .acyclic i (heard (rw e at t)))
+
+unblocked-last : {n : ℕ} {A : Accepted} {H : History} → Fits n A H → (i : ℕ) → mourned n A i ≡ false → any n (blockers n A i) ≡ false → Last H i
+unblocked-last {n} {A} {H} f i u a p = is-false (H p i) (λ t. clash (heard-blocks f i p u t) (any-none n (blockers n A i) a p (f .history .inside p i t .0)))
 
 -- ---- not mourned and with a blocker: the second shown history
 

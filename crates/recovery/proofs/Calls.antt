@@ -32,13 +32,14 @@ use Rattle.lists.specs.declared.Listing.the-variants as I
 use Rattle.lists.specs.Lists as listing
 use Rattle.lists.specs.Lists.{answerByte, listedIn}
 use Rattle.lists.proofs.Laws as lists
+use Rattle.fetches.specs.Fetches.{blockingBy, told}
 use Rattle.recovery.specs.declared.Checked.the-variants as C
 use Rattle.checks.specs.Checks.{offRoster}
 use Rattle.groups.specs.declared.Giving.{Giving}
 use Rattle.groups.specs.declared.Giving.the-variants as Y
 use Rattle.groups.specs.Groups.{aliasIn, foundAmong, isFound, giving}
 use Rattle.groups.proofs.Laws.{give-off, give-zero, give-known, give-has, give-new}
-use Rattle.recovery.specs.Contracts.{sizeOf, rosterOf, secondsOf, aliasOf, acceptedOf, ofGroup, saying, keeping, answered, entered, judged, offeredAs, offered, answerAt, askedAs, asked, shown, checkedRows, checked, settledOf, unmournedOf, foundIn, withSecond, gaveAs, given, recordOf, writtenOf, listedOf}
+use Rattle.recovery.specs.Contracts.{sizeOf, rosterOf, secondsOf, aliasOf, acceptedOf, ofGroup, saying, keeping, answered, entered, judged, offeredAs, offered, answerAt, askedAs, asked, shown, checkedRows, checked, settledOf, blockingOf, fetchingOf, unmournedOf, foundIn, withSecond, gaveAs, given, recordOf, writtenOf, listedOf}
 use Rattle.recovery.proofs.Facts.{same-list-self}
 
 -- ---- offering
@@ -177,6 +178,14 @@ module _ (r : Recovery) {n : ℕ} (is : sizeOf r ≡ n) where
   pub settled-is : settledOf r ≡ settledBy n (acceptedOf r) (has (r .mourned)) (has (r .earlier))
   unfolding settledOf
   settled-is = ap (λ (m : ℕ). settledBy m (acceptedOf r) (has (r .mourned)) (has (r .earlier))) is
+
+  pub blocking-is : blockingOf r ≡ blockingBy n (acceptedOf r) (has (r .mourned)) (has (r .earlier))
+  unfolding blockingOf
+  blocking-is = ap (λ (m : ℕ). blockingBy m (acceptedOf r) (has (r .mourned)) (has (r .earlier))) is
+
+  pub fetching-is : fetchingOf r ≡ told n (blockingOf r)
+  unfolding fetchingOf
+  fetching-is = ap (λ (m : ℕ). told m (blockingOf r)) is
 
   pub unmourned-is : unmournedOf r ≡ difference (below n) (has (r .mourned))
   unfolding unmournedOf

@@ -9,10 +9,10 @@ use native.Mathlib.Decide.{decLt, ℕ-discrete}
 use lib.ListN.{length, getD, set, drop, replicate, length-set, length-replicate}
 use lib.Dec.{ltb}
 use borrow.Author.Tests.{lt-ltb}
-use Rattle.places.specs.Sets.{nothing, same}
+use Rattle.places.specs.Sets.{nothing, any, same, count, lowest}
 use Rattle.places.specs.PlaceSets.{has}
 use Rattle.places.proofs.Booleans.{split, clash, is-false, and-intro, and-left, and-right}
-use Rattle.places.proofs.Tests.{same-intro}
+use Rattle.places.proofs.Tests.{same-intro, any-elim, any-none, lowest-below, lowest-member, lowest-least}
 use Rattle.histories.specs.declared.Kind.{Kind}
 use Rattle.histories.specs.Histories.{Row, History, Accepted, lay, Fits, Disagree}
 use Rattle.histories.specs.Rule.{Answer, is-last, not-last, is-open, answer, recorded, second, accepts, fitsTest, settled}
@@ -41,13 +41,16 @@ use Rattle.lists.specs.Lists.{answerByte}
 use Rattle.lists.specs.Lists as listing
 use Rattle.lists.proofs.Laws as lists
 use Rattle.lists.proofs.Laying as laying
+use Rattle.fetches.specs.Fetches.{told, blocking}
+use Rattle.fetches.specs.declared.Fetching.the-variants as E
+use Rattle.fetches.proofs.Laws as fetches
 use Rattle.replies.specs.Replies.{sameKind}
-use Rattle.recovery.specs.Contracts.{sizeOf, rosterOf, secondsOf, aliasOf, acceptedOf, holding, fresh, opened, ofGroup, saying, keeping, entered, offered, askedAs, asked, shown, checked, settledOf, unmournedOf, unmournedAbsentOf, unmournedCountOf, foundIn, withSecond, given, recordOf, writtenOf, listedOf}
+use Rattle.recovery.specs.Contracts.{sizeOf, rosterOf, secondsOf, aliasOf, acceptedOf, holding, fresh, opened, ofGroup, saying, keeping, entered, offered, askedAs, asked, shown, checked, settledOf, blockingOf, fetchingOf, unmournedOf, unmournedAbsentOf, unmournedCountOf, foundIn, withSecond, given, recordOf, writtenOf, listedOf}
 use Rattle.recovery.specs.Demand as D
-use Rattle.recovery.specs.Demand.{Free, Call, offer, ask, show, check, whole, unmourned, unmourned-absent, unmourned-count, find, give, write, list, Ledger, begun, KnownSerial, AreSeconds, says, lent-one, places, number, OfGroup, SameRecord, Holds, recordIn, ByteOf, byte-not, byte-last, byte-open, Dictates, faulty, foreign, repeats, differs, takes, none-fits, asked-off, asked-last, asked-not, asked-open, showed-off, showed-decided, showed-short, showed, checked-short, checked-off, checked-fits, checked-not, whole-settled, whole-open, gave-unmourned, gave-absent, gave-count, found-first, found-second, found-none, gave-off, gave-zero, gave-known, gave, wrote-off, wrote-absent, wrote-short, wrote, listed-short, listed-all, Whole, end, then}
-use Rattle.recovery.specs.Run.{offerSays, askedSays, showingSays, checkedSays, writingSays, foundSays, givingSays, listingSays, shownGives, writtenGives, listedGives, outcome, next, run, ledgerOf, left}
+use Rattle.recovery.specs.Demand.{Free, Call, offer, ask, show, check, whole, to-fetch, unmourned, unmourned-absent, unmourned-count, find, give, write, list, Ledger, begun, KnownSerial, AreSeconds, says, lent-one, places, number, OfGroup, SameRecord, Holds, MayHear, recordIn, ByteOf, byte-not, byte-last, byte-open, Dictates, faulty, foreign, repeats, differs, takes, none-fits, asked-off, asked-last, asked-not, asked-open, showed-off, showed-decided, showed-short, showed, checked-short, checked-off, checked-fits, checked-not, whole-settled, whole-open, fetched-none, fetched-next, gave-unmourned, gave-absent, gave-count, found-first, found-second, found-none, gave-off, gave-zero, gave-known, gave, wrote-off, wrote-absent, wrote-short, wrote, listed-short, listed-all, Whole, end, then}
+use Rattle.recovery.specs.Run.{offerSays, askedSays, showingSays, checkedSays, fetchingSays, writingSays, foundSays, givingSays, listingSays, shownGives, writtenGives, listedGives, outcome, next, run, ledgerOf, left}
 use Rattle.recovery.proofs.Opens.{opened-free}
-use Rattle.recovery.proofs.Keeps.{row-on, fresh-accepted, fresh-seconds, fresh-holds, kept-accepted, Held, held-size, held-roster, held-table, not-full, kept-seconds, keeping-holds, second-given, second-holds, kept-answer, kept-settled, kept-shown, kept-unmourned, kept-absent, kept-count}
+use Rattle.recovery.proofs.Keeps.{row-on, fresh-accepted, fresh-seconds, fresh-holds, kept-accepted, Held, held-size, held-roster, held-table, not-full, kept-seconds, keeping-holds, second-given, second-holds, kept-answer, kept-settled, kept-blocking, kept-shown, kept-unmourned, kept-absent, kept-count}
 use Rattle.recovery.proofs.Swaps.{Standing, as-first, as-second, unknown, standing, seconds-none, seconds-noted}
 use Rattle.recovery.proofs.Calls as call
 use Rattle.recovery.proofs.Facts.{same-kind-elim, same-kind-self, rows-equal, off-there, rows-on, lone-on, take-put, past-put}
@@ -310,7 +313,7 @@ module _ {roster : List ℕ} {r : Recovery} (g : Good roster r) where
       go (yes l) = rw (call.checked-short r (is-size g) h l) (checked-short l)
       go (no l) = long (omega arith) (offRoster n H) refl
 
-  -- ---- the whole, the two sets and the number
+  -- ---- the whole
 
   whole-step : Dictates roster (ledgerOf r) whole (says (cond (settledOf r) D.settled D.unsettled)) (ledgerOf r)
   whole-step = rw (call.settled-is r (is-size g), kept-settled (g .held) (g .fits)) (go (settled (length roster) (acceptedOf r)) refl)
@@ -318,6 +321,30 @@ module _ {roster : List ℕ} {r : Recovery} (g : Good roster r) where
       go : (t : Bool) → settled (length roster) (acceptedOf r) ≡ t → Dictates roster (ledgerOf r) whole (says (cond t D.settled D.unsettled)) (ledgerOf r)
       go true e = whole-settled (settled-iff (g .fits) .0 e)
       go false e = let w = unsettled (g .fits) e in whole-open (w .1) (w .2)
+
+  -- ---- how many to fetch, and which next
+
+  to-fetch-step : Dictates roster (ledgerOf r) to-fetch (says (fetchingSays (fetchingOf r))) (ledgerOf r)
+  unfolding fetchingSays told
+  to-fetch-step = rw (call.fetching-is r (is-size g), kept-blocking (g .held) (g .fits)) (go (any n S) refl)
+    where
+      n : ℕ
+      n = length roster
+
+      S : Row
+      S = blocking n (acceptedOf r)
+
+      heard : MayHear n (acceptedOf r) S
+      heard = fetches.blocking-iff (g .fits)
+
+      go : (t : Bool) → any n S ≡ t → Dictates roster (ledgerOf r) to-fetch (says (fetchingSays (cond t (E.Needs (count n S) (record { 0 = lowest n S })) E.Settled))) (ledgerOf r)
+      go true e =
+          let w = any-elim n S e in
+          let l = lowest-below n S (w .0) (w .1) (w .2) in
+          fetched-next heard (lowest-member n S l) (lowest-least n S)
+      go false e = fetched-none (λ b m. clash (heard b .1 m) (any-none n S e b (m .fits .history .inside b (m .place) (m .heard) .0)))
+
+  -- ---- the two sets and the number
 
   unmourned-step : Dictates roster (ledgerOf r) unmourned (places (unmournedOf r)) (ledgerOf r)
   unmourned-step = rw (kept-unmourned (g .held)) (gave-unmourned (unmourned-iff (g .fits)))
@@ -465,6 +492,7 @@ module _ {roster : List ℕ} {r : Recovery} (g : Good roster r) where
   both-step (show i a b) = (show-step i a b, g)
   both-step (check h) = (check-step h, g)
   both-step whole = (whole-step, g)
+  both-step to-fetch = (to-fetch-step, g)
   both-step unmourned = (unmourned-step, g)
   both-step unmourned-absent = (absent-step, g)
   both-step unmourned-count = (count-step, g)

@@ -20,7 +20,7 @@ use Rattle.records.specs.Layout as L
 use Rattle.recovery.specs.declared.Recovery.{Recovery}
 use Rattle.recovery.specs.Contracts.{acceptedOf}
 use Rattle.recovery.specs.Demand as D
-use Rattle.recovery.specs.Demand.{Ledger, Call, offer, ask, show, whole, Outcome, says, lent, OfGroup, Dictates, faulty, foreign, repeats, differs, takes, none-fits, asked-off, asked-last, asked-not, asked-open, showed-off, showed-decided, showed-short, showed, checked-short, checked-off, checked-fits, checked-not, whole-settled, whole-open, gave-unmourned, gave-absent, gave-count, found-first, found-second, found-none, gave-off, gave-zero, gave-known, gave, wrote-off, wrote-absent, wrote-short, wrote, listed-short, listed-all}
+use Rattle.recovery.specs.Demand.{Ledger, Call, offer, ask, show, whole, Outcome, says, lent, OfGroup, Dictates, faulty, foreign, repeats, differs, takes, none-fits, asked-off, asked-last, asked-not, asked-open, showed-off, showed-decided, showed-short, showed, checked-short, checked-off, checked-fits, checked-not, whole-settled, whole-open, fetched-none, fetched-next, gave-unmourned, gave-absent, gave-count, found-first, found-second, found-none, gave-off, gave-zero, gave-known, gave, wrote-off, wrote-absent, wrote-short, wrote, listed-short, listed-all}
 use Rattle.recovery.specs.Run.{left}
 use Rattle.recovery.proofs.Demand.{Good, step, good-next}
 use Rattle.recovery.proofs.Single.{read-clash, same-record}
@@ -48,6 +48,8 @@ grows (checked-fits a b) = within-self
 grows (checked-not a b d) = within-self
 grows (whole-settled a) = within-self
 grows (whole-open a b) = within-self
+grows (fetched-none a) = within-self
+grows (fetched-next a b d) = within-self
 grows (gave-unmourned a) = within-self
 grows (gave-absent a b) = within-self
 grows (gave-count a) = within-self

@@ -29,11 +29,13 @@ use Rattle.rows.proofs.Laws.{rows-of, rows-with, rows-other}
 use Rattle.rows.proofs.Tables.{no-table, table-length, table-rows, table-past, with-table}
 use Rattle.answers.specs.Views.{size, kindIn, acceptedIn}
 use Rattle.answers.proofs.Views.{recorded-parts}
+use Rattle.fetches.specs.Fetches.{blocking, blockingBy}
+use Rattle.fetches.proofs.Laws.{blocking-kept}
 use Rattle.shows.specs.Shows.{replaced}
 use Rattle.shows.specs.declared.Showing.the-variants as S
 use Rattle.recovery.specs.declared.Recovery.{Recovery}
-use Rattle.recovery.specs.Contracts.{sizeOf, rosterOf, secondsOf, acceptedOf, holding, fresh, keepingFull, keepingRow, keeping, shown, unmournedOf, unmournedAbsentOf, unmournedCountOf, withSecond}
-use Rattle.recovery.proofs.Calls.{shown-both, unmourned-is}
+use Rattle.recovery.specs.Contracts.{sizeOf, rosterOf, secondsOf, acceptedOf, holding, fresh, keepingFull, keepingRow, keeping, shown, blockingOf, unmournedOf, unmournedAbsentOf, unmournedCountOf, withSecond}
+use Rattle.recovery.proofs.Calls.{shown-both, blocking-is, unmourned-is}
 
 -- ---- any recovery
 
@@ -107,7 +109,7 @@ module _ (s : List ℕ) where
 -- ---- one that keeps a record
 
 module _ (n p : ℕ) (few : n ≤ 128) (on : p < n) where
-  kept-returned : (s : PlaceSet) (x : ℕ) → ltb x n && has (packed (with p (has s))) x ≡ (ltb x n && has s x) || eqb x p
+  pub kept-returned : (s : PlaceSet) (x : ℕ) → ltb x n && has (packed (with p (has s))) x ≡ (ltb x n && has s x) || eqb x p
   kept-returned s x =
       ap (λ (S : Places). ltb x n && S x) (has-packed (with p (has s)) ∙ kept-with s p (omega arith)) ∙ go (ltb x n) refl
     where
@@ -342,6 +344,9 @@ module _ {roster : List ℕ} {r : Recovery} (h : Held roster r) where
 
     pub kept-settled : settledBy n (acceptedOf r) (has (r .mourned)) (has (r .earlier)) ≡ settled n (acceptedOf r)
     kept-settled = ap₂ (settledBy n (acceptedOf r)) held-mourned held-earlier ∙ settled-kept f
+
+    pub kept-blocking : blockingOf r ≡ blocking n (acceptedOf r)
+    kept-blocking = blocking-is r held-size ∙ ap₂ (blockingBy n (acceptedOf r)) held-mourned held-earlier ∙ blocking-kept f
 
     kept-second : (i : ℕ) → replaced (rowsOf (r .rows)) (lowest n (blockersBy n (acceptedOf r) (has (r .mourned)) (has (r .earlier)) i)) (with i (before n (acceptedOf r) i)) ≡ second n (acceptedOf r) i
     unfolding replaced second grown

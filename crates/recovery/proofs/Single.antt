@@ -12,6 +12,7 @@ use Rattle.places.specs.Sets.{count}
 use Rattle.places.proofs.Booleans.{clash, both-ways}
 use Rattle.histories.specs.Histories.{Row, History, Accepted, lay, Fits, Disagree, Decided}
 use Rattle.histories.proofs.Exact.{none-fitted, all-none, all-open, none-open, decided-open}
+use Rattle.fetches.specs.Fetches.{MayHaveHeard}
 use Rattle.rosters.specs.Rosters.{IsRoster}
 use Rattle.rosters.specs.Seconds.{countsAs, itself}
 use Rattle.records.specs.Layout.{Parsed, got, Stored, stored, lone, layout}
@@ -19,7 +20,7 @@ use Rattle.records.specs.Layout as L
 use Rattle.records.proofs.Layouts.{AllBytes, bytes-drop}
 use Rattle.records.proofs.Trips.{layout-read}
 use Rattle.recovery.specs.Demand as D
-use Rattle.recovery.specs.Demand.{Said, refused, Call, Ledger, begun, KnownSerial, AreSeconds, Outcome, says, lent, lent-one, places, number, OfGroup, SameRecord, Unmourned, recordIn, endIn, ByteOf, byte-not, byte-last, byte-open, Dictates, faulty, foreign, repeats, differs, takes, none-fits, asked-off, asked-last, asked-not, asked-open, showed-off, showed-decided, showed-short, showed, checked-short, checked-off, checked-fits, checked-not, whole-settled, whole-open, gave-unmourned, gave-absent, gave-count, found-first, found-second, found-none, gave-off, gave-zero, gave-known, gave, wrote-off, wrote-absent, wrote-short, wrote, listed-short, listed-all, Whole, end, then}
+use Rattle.recovery.specs.Demand.{Said, refused, Call, Ledger, begun, KnownSerial, AreSeconds, Outcome, says, lent, lent-one, places, number, OfGroup, SameRecord, Mourned, Unmourned, recordIn, endIn, ByteOf, byte-not, byte-last, byte-open, Dictates, faulty, foreign, repeats, differs, takes, none-fits, asked-off, asked-last, asked-not, asked-open, showed-off, showed-decided, showed-short, showed, checked-short, checked-off, checked-fits, checked-not, whole-settled, whole-open, fetched-none, fetched-next, gave-unmourned, gave-absent, gave-count, found-first, found-second, found-none, gave-off, gave-zero, gave-known, gave, wrote-off, wrote-absent, wrote-short, wrote, listed-short, listed-all, Whole, end, then}
 use Rattle.recovery.proofs.Swaps.{seconds-none, seconds-noted}
 
 -- ---- outcomes
@@ -43,6 +44,7 @@ showing D.listed = false
 showing (D.first-of p) = false
 showing (D.second-of p) = false
 showing (D.ends e) = false
+showing (D.fetches k p) = false
 showing (refused j) = false
 
 -- forgets the rows of two histories that are shown, for a roster of n, and nothing else
@@ -110,8 +112,20 @@ module _ {roster seconds : List ℕ} {bytes : List ℕ} where
 
 -- ---- the same set, place and buffer
 
+same-set : (P : ℕ → Type 0) {S U : Row} → ((q : ℕ) → (S q ≡ true) ↔ P q) → ((q : ℕ) → (U q ≡ true) ↔ P q) → S ≡ U
+same-set P {S} {U} u v = fun-ext (λ q. both-ways (S q) (U q) (λ e. v q .1 (u q .0 e)) (λ e. u q .1 (v q .0 e)))
+
+-- a set has one lowest member
+same-lowest : {S : Row} {p q : ℕ} → S p ≡ true → ((j : ℕ) → j < p → S j ≡ false) → S q ≡ true → ((j : ℕ) → j < q → S j ≡ false) → p ≡ q
+same-lowest {p = p} {q} a l b m = go (decLt p q) (decLt q p)
+  where
+    go : Dec (p < q) → Dec (q < p) → p ≡ q
+    go (yes h) d = clash a (m p h)
+    go (no h) (yes k) = clash b (l q k)
+    go (no h) (no k) = omega arith
+
 same-unmourned : {n : ℕ} (A : Accepted) {S U : Row} → Unmourned n A S → Unmourned n A U → S ≡ U
-same-unmourned A {S} {U} u v = fun-ext (λ q. both-ways (S q) (U q) (λ e. v q .1 (u q .0 e)) (λ e. u q .1 (v q .0 e)))
+same-unmourned {n} A = same-set (λ q. (q < n) × (¬ (Mourned A q)))
 
 same-absent : {n : ℕ} (A : Accepted) {S T U W : Row} → Unmourned n A U → Unmourned n A W
     → ((q : ℕ) → (S q ≡ true) ↔ ((U q ≡ true) × (A .returned q ≡ false))) → ((q : ℕ) → (T q ≡ true) ↔ ((W q ≡ true) × (A .returned q ≡ false))) → S ≡ T
@@ -266,6 +280,12 @@ single f s (whole-settled a₁) (whole-settled a₂) c₁ c₂ = (refl, refl)
 single f s (whole-settled a₁) (whole-open {i = i} x₂ d₂) c₁ c₂ = decided-open (a₁ i x₂) d₂
 single f s (whole-open {i = i} x₁ d₁) (whole-settled a₂) c₁ c₂ = decided-open (a₂ i x₁) d₁
 single f s (whole-open x₁ d₁) (whole-open x₂ d₂) c₁ c₂ = (refl, refl)
+single f s (fetched-none z₁) (fetched-none z₂) c₁ c₂ = (refl, refl)
+single f s (fetched-none z₁) (fetched-next {p = p} h₂ m₂ l₂) c₁ c₂ = absurd (z₁ p (h₂ p .0 m₂))
+single f s (fetched-next {p = p} h₁ m₁ l₁) (fetched-none z₂) c₁ c₂ = absurd (z₂ p (h₁ p .0 m₁))
+single {roster = roster} {A = A} f s (fetched-next {S = S₁} {p = p} h₁ m₁ l₁) (fetched-next {S = S₂} {p = q} h₂ m₂ l₂) c₁ c₂ =
+    let e : S₁ ≡ S₂ = same-set (MayHaveHeard (length roster) (A .accepted)) h₁ h₂ in
+    (ap₂ (λ (S : Row) (p : ℕ). says (D.fetches (count (length roster) S) p)) e (same-lowest m₁ l₁ (ap (λ (S : Row). S q) e ∙ m₂) (λ j x. ap (λ (S : Row). S j) e ∙ l₂ j x)), refl)
 single {A = A} f s (gave-unmourned u₁) (gave-unmourned u₂) c₁ c₂ = (ap places (same-unmourned (A .accepted) u₁ u₂), refl)
 single {A = A} f s (gave-absent u₁ a₁) (gave-absent u₂ a₂) c₁ c₂ = (ap places (same-absent (A .accepted) u₁ u₂ a₁ a₂), refl)
 single {roster = roster} {A = A} f s (gave-count u₁) (gave-count u₂) c₁ c₂ = (ap (λ (S : Row). number (count (length roster) S)) (same-unmourned (A .accepted) u₁ u₂), refl)
@@ -343,6 +363,8 @@ left-fits {H = H} f (checked-fits a b) = (H, f)
 left-fits {H = H} f (checked-not a b d) = (H, f)
 left-fits {H = H} f (whole-settled a) = (H, f)
 left-fits {H = H} f (whole-open a b) = (H, f)
+left-fits {H = H} f (fetched-none a) = (H, f)
+left-fits {H = H} f (fetched-next a b d) = (H, f)
 left-fits {H = H} f (gave-unmourned a) = (H, f)
 left-fits {H = H} f (gave-absent a b) = (H, f)
 left-fits {H = H} f (gave-count a) = (H, f)
@@ -382,6 +404,8 @@ left-seconds s (checked-fits a b) = s
 left-seconds s (checked-not a b d) = s
 left-seconds s (whole-settled a) = s
 left-seconds s (whole-open a b) = s
+left-seconds s (fetched-none a) = s
+left-seconds s (fetched-next a b d) = s
 left-seconds s (gave-unmourned a) = s
 left-seconds s (gave-absent a b) = s
 left-seconds s (gave-count a) = s

@@ -27,6 +27,8 @@ use Rattle.groups.specs.declared.Giving.the-variants as Y
 use Rattle.checks.specs.Checks.{offRoster}
 use Rattle.shows.specs.Shows.{Shown, shownIn}
 use Rattle.lists.specs.Lists.{ListedAll, listedIn}
+use Rattle.fetches.specs.Fetches.{blockingBy, told}
+use Rattle.fetches.specs.declared.Fetching.{Fetching}
 use Rattle.replies.specs.Replies.{entering}
 use Rattle.recovery.specs.declared.Recovery.{Recovery}
 use Rattle.recovery.specs.declared.Opening.the-variants as G
@@ -203,10 +205,21 @@ checkedRows r H =
 unfoldable pub checked : Recovery → List ℕ → Checked
 checked r h = cond (leb (16 * sizeOf r) (length h)) (checkedRows r (historyIn (sizeOf r) h)) (C.Refused 13)
 
--- ---- the whole, the two sets and the number
+-- ---- the whole
 
 unfoldable pub settledOf : Recovery → Bool
 settledOf r = settledBy (sizeOf r) (acceptedOf r) (has (r .mourned)) (has (r .earlier))
+
+-- ---- how many places to fetch at most, and which next: document 02, [6]
+
+-- the places that block some unmourned place
+unfoldable pub blockingOf : Recovery → Row
+blockingOf r = blockingBy (sizeOf r) (acceptedOf r) (has (r .mourned)) (has (r .earlier))
+
+unfoldable pub fetchingOf : Recovery → Fetching
+fetchingOf r = told (sizeOf r) (blockingOf r)
+
+-- ---- the two sets and the number
 
 unfoldable pub unmournedOf : Recovery → Row
 unmournedOf r = difference (below (sizeOf r)) (has (r .mourned))

@@ -9,6 +9,7 @@ use lib.ListN.{length, getD, set, take, drop, replicate}
 use Rattle.places.specs.Sets.{count}
 use Rattle.histories.specs.declared.Kind.{Kind}
 use Rattle.histories.specs.Histories.{Row, History, Accepted, none, lay, Fits, LastInAll, LastInNone, Decided, Disagree}
+use Rattle.fetches.specs.Fetches.{MayHaveHeard}
 use Rattle.rosters.specs.Rosters.{IsRoster}
 use Rattle.rosters.specs.Seconds.{countsAs, itself}
 use Rattle.rows.specs.Rows.{historyIn}
@@ -22,6 +23,8 @@ pub data Said : Type 0 where
   first-of second-of : ℕ → Said
   -- a record was written, up to this position
   ends : ℕ → Said
+  -- so many fetches surely suffice, and this place is next
+  fetches : ℕ → ℕ → Said
   refused : ℕ → Said
 
 -- ---- opening
@@ -47,7 +50,7 @@ pub data Call : Type 0 where
   show : ℕ → List ℕ → List ℕ → Call
   -- a lent history
   check : List ℕ → Call
-  whole unmourned unmourned-absent unmourned-count : Call
+  whole to-fetch unmourned unmourned-absent unmourned-count : Call
   -- a serial
   find : ℕ → Call
   -- a place, and a second serial for it
@@ -136,6 +139,10 @@ pub data ByteOf (n : ℕ) (A : Accepted) (i : ℕ) : ℕ → Type 0 where
   byte-last : LastInAll n A i → ByteOf n A i 1
   byte-open : {F G : History} → Disagree n A i F G → ByteOf n A i 2
 
+-- S is the set of those who, in some history that fits, heard an unmourned place: document 02, [6]
+abbrev pub MayHear : ℕ → Accepted → Row → Type 0
+MayHear n A S = (b : ℕ) → (S b ≡ true) ↔ MayHaveHeard n A b
+
 -- `Dictates roster A c o B`: where A stands beside the recovery, the call c must have the outcome o, and leaves B there
 pub data Dictates (roster : List ℕ) : Ledger → Call → Outcome → Ledger → Type 0 where
   faulty : {A : Ledger} {bytes : List ℕ} {j : ℕ} → lone (countsAs roster (A .seconds)) bytes ≡ L.refused j → 1 ≤ j → j ≤ 8 → Dictates roster A (offer bytes) (says (refused j)) A
@@ -172,6 +179,9 @@ pub data Dictates (roster : List ℕ) : Ledger → Call → Outcome → Ledger �
       → ¬ (Fits (length roster) (A .accepted) (historyIn (length roster) h)) → Dictates roster A (check h) (says fits-not) A
   whole-settled : {A : Ledger} → ((i : ℕ) → i < length roster → Decided (length roster) (A .accepted) i) → Dictates roster A whole (says settled) A
   whole-open : {A : Ledger} {i : ℕ} {F G : History} → i < length roster → Disagree (length roster) (A .accepted) i F G → Dictates roster A whole (says unsettled) A
+  fetched-none : {A : Ledger} → ((b : ℕ) → ¬ (MayHaveHeard (length roster) (A .accepted) b)) → Dictates roster A to-fetch (says settled) A
+  fetched-next : {A : Ledger} {S : Row} {p : ℕ} → MayHear (length roster) (A .accepted) S → S p ≡ true → ((q : ℕ) → q < p → S q ≡ false)
+      → Dictates roster A to-fetch (says (fetches (count (length roster) S) p)) A
   gave-unmourned : {A : Ledger} {S : Row} → Unmourned (length roster) (A .accepted) S → Dictates roster A unmourned (places S) A
   gave-absent : {A : Ledger} {S U : Row} → Unmourned (length roster) (A .accepted) U → ((q : ℕ) → (S q ≡ true) ↔ ((U q ≡ true) × (A .accepted .returned q ≡ false)))
       → Dictates roster A unmourned-absent (places S) A

@@ -23,11 +23,13 @@ use Rattle.shows.specs.Shows.{Shown}
 use Rattle.lists.specs.declared.Listing.{Listing}
 use Rattle.lists.specs.declared.Listing.the-variants as I
 use Rattle.lists.specs.Lists.{ListedAll}
+use Rattle.fetches.specs.declared.Fetching.{Fetching}
+use Rattle.fetches.specs.declared.Fetching.the-variants as E
 use Rattle.recovery.specs.declared.Checked.{Checked}
 use Rattle.recovery.specs.declared.Checked.the-variants as C
-use Rattle.recovery.specs.Contracts.{acceptedOf, secondsOf, opened, offered, asked, shown, checked, settledOf, unmournedOf, unmournedAbsentOf, unmournedCountOf, foundIn, given, writtenOf, listedOf}
+use Rattle.recovery.specs.Contracts.{acceptedOf, secondsOf, opened, offered, asked, shown, checked, settledOf, fetchingOf, unmournedOf, unmournedAbsentOf, unmournedCountOf, foundIn, given, writtenOf, listedOf}
 use Rattle.recovery.specs.Demand as D
-use Rattle.recovery.specs.Demand.{Said, Ledger, Call, offer, ask, show, check, whole, unmourned, unmourned-absent, unmourned-count, find, give, write, list, Outcome, says, lent, lent-one, places, number}
+use Rattle.recovery.specs.Demand.{Said, Ledger, Call, offer, ask, show, check, whole, to-fetch, unmourned, unmourned-absent, unmourned-count, find, give, write, list, Outcome, says, lent, lent-one, places, number}
 
 -- ---- document 01's word and number for each answer of the code
 
@@ -55,6 +57,10 @@ unfoldable pub checkedSays : Checked → Said
 checkedSays C.Fits = D.fits
 checkedSays C.FitsNot = D.fits-not
 checkedSays (C.Refused j) = D.refused j
+
+unfoldable pub fetchingSays : Fetching → Said
+fetchingSays E.Settled = D.settled
+fetchingSays (E.Needs k p) = D.fetches k (p .0)
 
 unfoldable pub writingSays : Writing → Said
 writingSays (W.Next e) = D.ends e
@@ -90,6 +96,7 @@ outcome r (ask i) = says (askedSays (asked r i))
 outcome r (show i a b) = shownGives (shown r i a b)
 outcome r (check h) = says (checkedSays (checked r h))
 outcome r whole = says (cond (settledOf r) D.settled D.unsettled)
+outcome r to-fetch = says (fetchingSays (fetchingOf r))
 outcome r unmourned = places (unmournedOf r)
 outcome r unmourned-absent = places (unmournedAbsentOf r)
 outcome r unmourned-count = number (unmournedCountOf r)
@@ -105,6 +112,7 @@ next r (ask i) = r
 next r (show i a b) = r
 next r (check h) = r
 next r whole = r
+next r to-fetch = r
 next r unmourned = r
 next r unmourned-absent = r
 next r unmourned-count = r

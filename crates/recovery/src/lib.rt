@@ -7,8 +7,9 @@ ghost use lib.ListN.{length};
 ghost use Rattle.places.specs.PlaceSets.{has};
 ghost use Rattle.replies.specs.Replies.{judgement};
 ghost use Rattle.recovery.specs.Contracts as contracts;
-ghost use Rattle.recovery.specs.Contracts.{opened, saying, keepingFull, keepingRow, keeping, answered, offered, asked, shown, checked, settledOf, unmournedOf, unmournedAbsentOf, unmournedCountOf, foundIn, withSecond, given, writtenOf, listedOf};
+ghost use Rattle.recovery.specs.Contracts.{opened, saying, keepingFull, keepingRow, keeping, answered, offered, asked, shown, checked, settledOf, fetchingOf, unmournedOf, unmournedAbsentOf, unmournedCountOf, foundIn, withSecond, given, writtenOf, listedOf};
 use answers::Answer;
+use fetches::Fetching;
 use groups::Giving;
 use histories::Kind;
 use lists::Listing;
@@ -328,6 +329,17 @@ pub fn settled(r: Recovery) -> bool
     let mourned = r.mourned;
     let earlier = r.earlier;
     answers::settled(&r.rows, returned, full, mourned, earlier, r.count)
+}
+
+// How many fetches surely suffice until no place is open, and the place to fetch next; or that none is open.
+pub fn to_fetch(r: Recovery) -> Fetching
+    ensures { λ s. ⌜ s ≡ fetchingOf r ⌝ }
+{
+    let returned = r.returned;
+    let full = r.full;
+    let mourned = r.mourned;
+    let earlier = r.earlier;
+    fetches::to_fetch(&r.rows, returned, full, mourned, earlier, r.count)
 }
 
 // Checks a lent history: 13, 15, or whether it fits.
