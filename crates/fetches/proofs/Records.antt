@@ -1,5 +1,5 @@
--- What one record more changes: those who block then blocked before, but for its place; and an empty record, which is never refused, takes
--- just its place off them. Assumes nothing.
+-- What more records change: those who block then blocked before, and whoever is back does not; an empty record, which is never refused,
+-- takes just its place off them. Assumes nothing.
 use mathlib.Core.Path.{_≡_, refl, sym, ap, ap₂, _∙_, fun-ext, subst}
 use mathlib.Core.Bool.{Bool, true, false, not, cond, _&&_, _||_, or-false}
 use mathlib.Core.Logic.{_⊎_, inl, inr}
@@ -11,36 +11,37 @@ use Rattle.places.proofs.Booleans.{clash, is-false, both-ways, or-right, minus-
 use Rattle.histories.specs.declared.Kind.{Kind}
 use Rattle.histories.specs.declared.Kind.the-variants.{Full}
 use Rattle.histories.specs.Histories.{Row, History, Before, heard, through, Accepted, lay, Fits}
-use Rattle.histories.specs.Rule.{recorded, mourned, isFull, before, beforeFull, blockers}
+use Rattle.histories.specs.Rule.{recorded, mourned, reach, before, isFull, beforeFull, blockers}
 use Rattle.histories.proofs.Exact.{recorded-returned, recorded-fits}
 use Rattle.histories.proofs.Accepts.{laid-recorded, laid-mourned, laid-back}
-use Rattle.histories.proofs.Fewer.{within-lay, fits-fewer, fits-lay}
+use Rattle.histories.proofs.Fewer.{Within, within-lay, fits-fewer, fits-lay}
 use Rattle.histories.proofs.Kept.{before-full-lay}
 use Rattle.fetches.specs.Fetches.{MayHaveHeard, blocking}
 use Rattle.fetches.proofs.Laws.{blocking-elim, blocking-intro, blocking-iff}
 
+-- ---- more records
+
+-- whoever may have heard an unmourned place when more is known might have before
+heard-before : {n : ℕ} {A B : Accepted} {b : ℕ} → Within A B → MayHaveHeard n B b → MayHaveHeard n A b
+heard-before w m = record {
+  history = m .history;
+  fits = fits-fewer w (m .fits);
+  place = m .place;
+  unnamed = λ r e. ap (λ (R : Row). R (m .place)) (sym (w .row r e)) ∙ m .unnamed r (w .returned r e);
+  heard = m .heard;
+}
+
+pub fewer-block : {n : ℕ} {A B : Accepted} {G : History} → Within A B → Fits n B G → (b : ℕ) → blocking n B b ≡ true → blocking n A b ≡ true
+fewer-block w g b e = blocking-iff (fits-fewer w g) b .1 (heard-before w (blocking-iff g b .0 e))
+
+-- whoever is back blocks nobody: its row is known, and names no unmourned place
+pub back-blocks-none : {n : ℕ} {A : Accepted} {H : History} → Fits n A H → (b : ℕ) → A .returned b ≡ true → blocking n A b ≡ false
+back-blocks-none {n} {A} f b r =
+    is-false (blocking n A b) (λ e. let m = blocking-iff f b .0 e in clash (sym (m .fits .recorded b r (m .place)) ∙ m .heard) (m .unnamed b r))
+
+-- ---- an empty record of a place that is not back
+
 module _ (A : Accepted) (p : ℕ) (k : Kind) (absent : A .returned p ≡ false) where
-  -- ---- any record that fits with the others
-
-  -- whoever may have heard an unmourned place then might have before, and is not the one that came back
-  fewer-heard : {n : ℕ} (M : Row) (b : ℕ) → MayHaveHeard n (lay A p k M) b → MayHaveHeard n A b × (b ≡ p → ⊥)
-  fewer-heard M b m =
-      let w = within-lay A p k M absent in
-      (record {
-        history = m .history;
-        fits = fits-fewer w (m .fits);
-        place = m .place;
-        unnamed = λ r e. ap (λ (R : Row). R (m .place)) (sym (w .row r e)) ∙ m .unnamed r (w .returned r e);
-        heard = m .heard;
-      }, λ e. clash (sym (m .fits .recorded b (rw e (laid-back A p k M)) (m .place)) ∙ m .heard) (m .unnamed b (rw e (laid-back A p k M))))
-
-  pub fewer-block : {n : ℕ} {G : History} (M : Row) → Fits n (lay A p k M) G → (b : ℕ) → blocking n (lay A p k M) b ≡ true → without p (blocking n A) b ≡ true
-  fewer-block M g b e =
-      let w = fewer-heard M b (blocking-iff g b .0 e) in
-      minus-intro (blocking-iff (fits-fewer (within-lay A p k M absent) g) b .1 (w .0)) (ne-eqb b p (w .1))
-
-  -- ---- an empty record
-
   same-rows : recorded (lay A p k nothing) ≡ recorded A
   same-rows = fun-ext (λ r. laid-recorded A p k nothing r ∙ go r (eqb r p) refl)
     where
@@ -67,7 +68,7 @@ module _ (A : Accepted) (p : ℕ) (k : Kind) (absent : A .returned p ≡ false) 
 
     same-before : (i : ℕ) → before n (lay A p k nothing) i ≡ before n A i
     unfolding before
-    same-before i = ap (λ (R : History). Rattle.histories.specs.Rule.reach n R i) same-rows
+    same-before i = ap (λ (R : History). reach n R i) same-rows
 
     same-full : beforeFull n (lay A p k nothing) ≡ beforeFull n A
     same-full = before-full-lay A p k nothing absent (empty-fits f) ∙ go (isFull k)
@@ -97,8 +98,15 @@ module _ (A : Accepted) (p : ℕ) (k : Kind) (absent : A .returned p ≡ false) 
             on-true false = refl
 
     pub empty-takes-off : blocking n (lay A p k nothing) ≡ without p (blocking n A)
-    empty-takes-off = fun-ext (λ b. both-ways (blocking n (lay A p k nothing) b) (without p (blocking n A) b) (fewer-block nothing (empty-fits f) b) (back b))
+    empty-takes-off = fun-ext (λ b. both-ways (blocking n (lay A p k nothing) b) (without p (blocking n A) b) (into b) (back b))
       where
+        -- the place itself is back
+        other : (b : ℕ) → blocking n (lay A p k nothing) b ≡ true → b ≡ p → ⊥
+        other b e h = clash e (back-blocks-none (empty-fits f) b (rw h (laid-back A p k nothing)))
+
+        into : (b : ℕ) → blocking n (lay A p k nothing) b ≡ true → without p (blocking n A) b ≡ true
+        into b e = minus-intro (fewer-block (within-lay A p k nothing absent) (empty-fits f) b e) (ne-eqb b p (other b e))
+
         back : (b : ℕ) → without p (blocking n A) b ≡ true → blocking n (lay A p k nothing) b ≡ true
         back b e =
             let x = minus-elim (blocking n A b) (eqb b p) e in

@@ -109,7 +109,7 @@ module _ (s : List ℕ) where
 -- ---- one that keeps a record
 
 module _ (n p : ℕ) (few : n ≤ 128) (on : p < n) where
-  pub kept-returned : (s : PlaceSet) (x : ℕ) → ltb x n && has (packed (with p (has s))) x ≡ (ltb x n && has s x) || eqb x p
+  kept-returned : (s : PlaceSet) (x : ℕ) → ltb x n && has (packed (with p (has s))) x ≡ (ltb x n && has s x) || eqb x p
   kept-returned s x =
       ap (λ (S : Places). ltb x n && S x) (has-packed (with p (has s)) ∙ kept-with s p (omega arith)) ∙ go (ltb x n) refl
     where

@@ -123,16 +123,16 @@ pub record Model (roster : List ℕ) (H : History) (K : ℕ → Kind) (r : Recov
   pub kinds : Kinds (acceptedOf r) K
 
 module _ {roster : List ℕ} {r : Recovery} (g : Good roster r) (bytes : List ℕ) where
-  offered-good : Good roster (offered r bytes .recovery)
+  pub offered-good : Good roster (offered r bytes .recovery)
   unfolding run.next
   offered-good = good-next g (offer bytes)
 
   -- one that was accepted
-  offered-enters : IsAccepted (offered r bytes .answer) → Enters roster (ledgerOf r) (ledgerOf (offered r bytes .recovery)) bytes
+  pub offered-enters : IsAccepted (offered r bytes .answer) → Enters roster (ledgerOf r) (ledgerOf (offered r bytes .recovery)) bytes
   unfolding outcome run.next
   offered-enters a = accepted-enters (step g (offer bytes)) (says-accepted (offered r bytes .answer) a)
 
-  offered-within : Within (acceptedOf r) (acceptedOf (offered r bytes .recovery))
+  pub offered-within : Within (acceptedOf r) (acceptedOf (offered r bytes .recovery))
   unfolding run.next
   offered-within = grows (step g (offer bytes))
 
