@@ -69,7 +69,7 @@ module _ (n : ℕ) (A : Accepted) (M F : Row) where
           more-at b ∙ or-left (has own b) (g .known-all i b f (is-false (has left i) (λ s. clash (rest-at i ∙ minus-intro s e) h)) x)
 
   -- a blocker is missing
-  pub blocker-missing : (i b : ℕ) → blockersBy n A M F i b ≡ true → (ltb b n ≡ true) × (A .returned b ≡ false) × (F b ≡ false)
+  blocker-missing : (i b : ℕ) → blockersBy n A M F i b ≡ true → (ltb b n ≡ true) × (A .returned b ≡ false) × (F b ≡ false)
   unfolding blockersBy ruledOutBy
   blocker-missing i b e =
       let x = minus-elim (difference (difference (below n) (only i)) (A .returned) b) (ruledOutBy n A M F i b) e in
@@ -118,16 +118,17 @@ module _ (n : ℕ) (A : Accepted) (M F : Row) where
 -- ---- what is told
 
 module _ (n : ℕ) (A : Accepted) (M F : Row) where
-  -- who blocks is on the roster
-  pub blocking-on : (b : ℕ) → blockingBy n A M F b ≡ true → b < n
+  -- who blocks is on the roster, and not back
+  pub blocking-absent : (b : ℕ) → blockingBy n A M F b ≡ true → (b < n) × (A .returned b ≡ false)
   unfolding blockingBy
-  blocking-on b h =
+  blocking-absent b h =
       let w = any-elim n (λ i. difference (below n) M i && blockersBy n A M F i b) h in
-      ltb-true b n (blocker-missing n A M F (w .0) b (and-right (difference (below n) M (w .0)) (blockersBy n A M F (w .0) b) (w .2)) .0)
+      let m = blocker-missing n A M F (w .0) b (and-right (difference (below n) M (w .0)) (blockersBy n A M F (w .0) b) (w .2)) in
+      (ltb-true b n (m .0), m .1)
 
   module _ (few : n ≤ 128) (known : PlaceSet) (e : has known ≡ blockingBy n A M F) where
     on : (b : ℕ) → has known b ≡ true → b < n
-    on b h = blocking-on b (sym (ap (λ (S : Places). S b) e) ∙ h)
+    on b h = blocking-absent b (sym (ap (λ (S : Places). S b) e) ∙ h) .0
 
     pub told-none : found 128 (lowest 128 (has known)) ≡ Nothing → Settled ≡ fetchingBy n A M F
     unfolding fetchingBy told

@@ -16,7 +16,6 @@ use Rattle.histories.proofs.Exact.{mourned-elim, mourned-intro, blocks, grown-i
 use Rattle.histories.proofs.Kept.{blockers-kept}
 use Rattle.answers.proofs.Views.{recorded-parts}
 use Rattle.fetches.specs.Fetches.{MayHaveHeard, blocking, blockingBy}
-use Rattle.fetches.proofs.Gathering.{blocker-missing}
 
 -- ---- with the right sets kept
 

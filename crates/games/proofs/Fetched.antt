@@ -21,7 +21,7 @@ use Rattle.fetches.specs.Fetches.{blocking, told}
 use Rattle.fetches.specs.declared.Fetching.{Fetching}
 use Rattle.fetches.specs.declared.Fetching.the-variants.{Settled, Needs}
 use Rattle.fetches.proofs.Laws.{settled-told}
-use Rattle.fetches.proofs.Gathering.{blocking-on}
+use Rattle.fetches.proofs.Gathering.{blocking-absent}
 use Rattle.fetches.proofs.Records.{fewer-block, back-blocks-none, empty-fits, empty-takes-off}
 use Rattle.rosters.specs.Seconds.{countsAs}
 use Rattle.records.specs.Layout.{got, Stored, lone, layout}
@@ -50,10 +50,10 @@ module _ (r : Recovery) where
   unfolding settledOf blockingOf
   settled-is = settled-told (sizeOf r) (acceptedOf r) _ _
 
-  -- who blocks is on the roster
-  pub blocks-on : (b : ℕ) → blockingOf r b ≡ true → b < sizeOf r
+  -- who blocks is absent
+  pub blocks-absent : (b : ℕ) → blockingOf r b ≡ true → Absent r b
   unfolding blockingOf
-  blocks-on = blocking-on (sizeOf r) (acceptedOf r) _ _
+  blocks-absent = blocking-absent (sizeOf r) (acceptedOf r) _ _
 
   pub some-blocks : any (sizeOf r) (blockingOf r) ≡ true → (settledOf r ≡ false) × (fetchingOf r ≡ Needs (count (sizeOf r) (blockingOf r)) (record { 0 = lowest (sizeOf r) (blockingOf r) }))
   unfolding fetchingOf told
@@ -81,11 +81,6 @@ taken-said (O.Refused j) e = let z : _≡_ {A = ℕ} 0 1 = cc in absurd (omega a
 -- ---- one fetch
 
 module _ {roster : List ℕ} {r : Recovery} (g : Good roster r) where
-  -- who blocks is not back
-  pub blocks-absent : (b : ℕ) → blockingOf r b ≡ true → Absent r b
-  blocks-absent b e =
-      (blocks-on r b e, is-false (acceptedOf r .returned b) (λ t. clash (sym (ap (λ (S : Row). S b) (kept-blocking (g .held) (g .fits))) ∙ e) (back-blocks-none (g .fits) b t)))
-
   module _ {p : ℕ} {bytes : List ℕ} (h : HandedOver r p bytes) where
     -- the fetched place is back
     pub handed-back : acceptedOf (offered r bytes .recovery) .returned p ≡ true
@@ -173,14 +168,14 @@ module _ {roster : List ℕ} {r : Recovery} (g : Good roster r) (some : any (siz
   next-blocks = let w = any-elim (sizeOf r) (blockingOf r) some in lowest-member (sizeOf r) (blockingOf r) (lowest-below (sizeOf r) (blockingOf r) (w .0) (w .1) (w .2))
 
   one-fewer : count (sizeOf r) (blockingOf r) ≡ suc (count (sizeOf r) (without p (blockingOf r)))
-  one-fewer = count-without (sizeOf r) (blockingOf r) p (blocks-on r p next-blocks) next-blocks
+  one-fewer = count-without (sizeOf r) (blockingOf r) p (blocks-absent r p next-blocks .0) next-blocks
 
   fetch-first : {k : ℕ} → count (sizeOf r) (blockingOf r) ≤ suc k
       → ((s : Recovery) → Good roster s → count (sizeOf s) (blockingOf s) ≤ k → SettledWithin k s) → SettledWithin (suc k) r
   fetch-first {k} l then = fetch (some-blocks r some .1) absent (emptyRecord r p Full, empty-handed g p Full absent) (λ bytes h cs. then (left (offered r bytes .recovery) cs) (good-then g h cs) (less bytes h cs))
     where
       absent : Absent r p
-      absent = blocks-absent g p next-blocks
+      absent = blocks-absent r p next-blocks
 
       less : (bytes : List ℕ) (h : HandedOver r p bytes) (cs : List Call) → count (sizeOf (left (offered r bytes .recovery) cs)) (blockingOf (left (offered r bytes .recovery) cs)) ≤ k
       less bytes h cs =
@@ -202,7 +197,7 @@ enough-from {roster} (suc k) r g l = go (enough-from k) (split (any (sizeOf r) (
 -- ---- needed
 
 -- a place more or less
-count-fewer : (n : ℕ) (S : Row) (p : ℕ) → p < n → count n S ≤ suc (count n (without p S))
+pub count-fewer : (n : ℕ) (S : Row) (p : ℕ) → p < n → count n S ≤ suc (count n (without p S))
 count-fewer n S p l = go (split (S p))
   where
     kept : S p ≡ false → (q : ℕ) → q < n → S q ≡ without p S q

@@ -9,7 +9,7 @@ use lib.Dec.{eqb}
 use borrow.Author.Tests.{ne-eqb, eq-eqb}
 use Rattle.places.specs.Sets.{Places, without, lowest}
 use Rattle.places.proofs.Booleans.{minus-elim}
-use Rattle.places.proofs.Tests.{last-or-below, lowest-is}
+use Rattle.places.proofs.Tests.{last-or-below, lowest-below, lowest-member, lowest-is}
 use Rattle.games.specs.Games.{leastWith, least, greatest}
 
 -- ---- the least
@@ -82,6 +82,27 @@ pub least-bound : (n : ℕ) (S : Places) (f : ℕ → ℕ) (k : ℕ) → ((p : �
 unfolding least
 least-bound n S f k h = omega (arith, least-below n S f (f (lowest n S)), h (lowest n S))
 
+-- it is at most the number of each member
+least-member : (n : ℕ) (S : Places) (f : ℕ → ℕ) (m p : ℕ) → p < n → S p ≡ true → leastWith n S f m ≤ f p
+least-member n S f m p l e = omega (arith, least-taken n S f m p l e, least-below n (without p S) f (min m (f p)))
+
+-- and at least what they all are at least
+least-above : (n : ℕ) (S : Places) (f : ℕ → ℕ) (m v : ℕ) → v ≤ m → ((q : ℕ) → q < n → S q ≡ true → v ≤ f q) → v ≤ leastWith n S f m
+unfolding leastWith
+least-above zero S f m v l h = l
+least-above (suc n) S f m v l h = go (S n) refl (least-above n S f m v l (λ q b. h q (omega arith)))
+  where
+    go : (b : Bool) → S n ≡ b → v ≤ leastWith n S f m → v ≤ cond b (min (f n) (leastWith n S f m)) (leastWith n S f m)
+    go true e x = omega (arith, h n (omega arith) e)
+    go false e x = x
+
+-- so it is the number of one member that is not above that of any
+pub least-is : (n : ℕ) (S : Places) (f : ℕ → ℕ) (p v : ℕ) → p < n → S p ≡ true → f p ≡ v → ((q : ℕ) → q < n → S q ≡ true → v ≤ f q) → least n S f ≡ v
+unfolding least
+least-is n S f p v l e is h =
+    let low = lowest-below n S p l e in
+    omega (arith, least-member n S f (f (lowest n S)) p l e, least-above n S f (f (lowest n S)) v (h (lowest n S) low (lowest-member n S low)) h)
+
 -- what holds at each turn: the places of `left` are still to be looked at, and the least of the others is `best`
 pub record Looking (n : ℕ) (S : Places) (f : ℕ → ℕ) (left : Places) (best : ℕ) : Type 0 where
   pub listed : (q : ℕ) → left q ≡ true → S q ≡ true
@@ -129,7 +150,21 @@ pub greatest-stays : (f : ℕ → ℕ) (j m : ℕ) → m ≡ greatest j f → f 
 greatest-stays f j m e z = greatest-next f j m 0 m e (sym z) (omega arith)
 
 -- where none of the numbers is above k, neither is the greatest
-pub greatest-bound : (n : ℕ) (f : ℕ → ℕ) (k : ℕ) → ((j : ℕ) → f j ≤ k) → greatest n f ≤ k
+pub greatest-bound : (n : ℕ) (f : ℕ → ℕ) (k : ℕ) → ((j : ℕ) → j < n → f j ≤ k) → greatest n f ≤ k
 unfolding greatest
 greatest-bound zero f k h = omega arith
-greatest-bound (suc n) f k h = omega (arith, greatest-bound n f k h, h n)
+greatest-bound (suc n) f k h = omega (arith, greatest-bound n f k (λ j l. h j (omega arith)), h n (omega arith))
+
+-- it is at least each of the numbers
+greatest-above : (n : ℕ) (f : ℕ → ℕ) (i : ℕ) → i < n → f i ≤ greatest n f
+unfolding greatest
+greatest-above zero f i l = absurd (omega arith)
+greatest-above (suc n) f i l = go (last-or-below i n l) (greatest-above n f i)
+  where
+    go : (i ≡ n) ⊎ (i < n) → (i < n → f i ≤ greatest n f) → f i ≤ max (greatest n f) (f n)
+    go (inl e) below = let g : f i ≡ f n = ap f e in omega arith
+    go (inr b) below = omega (arith, below b)
+
+-- so it is one of them that none is above
+pub greatest-is : (n : ℕ) (f : ℕ → ℕ) (i v : ℕ) → i < n → f i ≡ v → ((j : ℕ) → j < n → f j ≤ v) → greatest n f ≡ v
+greatest-is n f i v l e h = omega (arith, greatest-above n f i l, greatest-bound n f v h)

@@ -4,3 +4,4 @@ pub mod Fetched
 pub mod Least
 pub mod Handing
 pub mod Turns
+pub mod Plays

@@ -184,7 +184,7 @@ turn-bound (suc k) r = go (settledOf r) (turn-bound k)
     lasts below o false = omega arith
 
     hills : ((s : Recovery) → crewsTurn k s ≤ k) → (p : ℕ) → hillsTurn (crewsTurn k) r p ≤ k
-    hills below p = greatest-bound (2 * 2 ^ sizeOf r) (λ j. lasting (crewsTurn k) (handed r p j)) k (λ j. lasts below (handed r p j) (isTaken (handed r p j .answer)))
+    hills below p = greatest-bound (2 * 2 ^ sizeOf r) (λ j. lasting (crewsTurn k) (handed r p j)) k (λ j _. lasts below (handed r p j) (isTaken (handed r p j .answer)))
 
     go : (t : Bool) → ((s : Recovery) → crewsTurn k s ≤ k) → cond t 0 (suc (least (sizeOf r) (absentOf r) (hillsTurn (crewsTurn k) r))) ≤ suc k
     go true below = omega arith

@@ -1,0 +1,268 @@
+-- The game played out lasts just as many fetches as are told; and the hill has every record that may be handed over. Assumes nothing.
+use mathlib.Core.Path.{_≡_, refl, sym, ap, ap₂, _∙_, fun-ext}
+use mathlib.Core.Bool.{Bool, true, false, cond}
+use mathlib.Core.Logic.{_⊎_, inl, inr}
+use mathlib.Core.List.{List, []}
+use Prim.Native.Nat.{ℕ, zero, suc, _+_, _*_, _/_, _%_, _^_, _<_, _≤_}
+use native.Mathlib.Omega.{arith}
+use native.Mathlib.Decide.{decLt}
+use lib.ListN.{length}
+use lib.Dec.{ltb}
+use borrow.Author.Tests.{ltb-true, lt-ltb}
+use Rattle.places.specs.Sets.{nothing, without, any, count, lowest}
+use Rattle.places.specs.PlaceSets.{bit, word}
+use Rattle.places.proofs.Booleans.{split, clash, is-false, minus-elim, minus-intro}
+use Rattle.places.proofs.Tests.{any-elim, none-any}
+use Rattle.places.proofs.Counting.{count-subset, count-without}
+use Rattle.places.proofs.Digits.{bit-zero, bit-high, bit-word, word-less}
+use Rattle.histories.specs.declared.Kind.{Kind}
+use Rattle.histories.specs.declared.Kind.the-variants.{Full, Short}
+use Rattle.histories.specs.Histories.{Row}
+use Rattle.records.specs.Layout.{got, Stored, lone, layout}
+use Rattle.replies.specs.declared.Reply.{Reply}
+use Rattle.replies.specs.declared.Reply.the-variants as O
+use Rattle.recovery.specs.declared.Recovery.{Recovery}
+use Rattle.recovery.specs.Contracts.{sizeOf, rosterOf, aliasOf, acceptedOf, judged, offeredAs, offered, settledOf, blockingOf, fetchingOf}
+use Rattle.recovery.specs.Demand.{Free, Call}
+use Rattle.recovery.specs.Run.{left, reached}
+use Rattle.recovery.proofs.Facts.{lone-on}
+use Rattle.recovery.proofs.Demand.{Good, is-roster, is-size, is-alias, good-left}
+use Rattle.recovery.proofs.Single.{same-record}
+use Rattle.recovery.proofs.Later.{offered-good, offered-enters}
+use Rattle.games.specs.declared.Played.the-variants as P
+use Rattle.games.specs.Fetched.{number, Absent, HandedOver, emptyRecord}
+use Rattle.games.specs.Games.{absentOf, absentCount, least, greatest, kindNumbered, recordNumbered, handed, isTaken, lasting, hillsTurn, crewsTurn, played}
+use Rattle.games.proofs.Fetched.{some-blocks, none-blocks, number-is, blocks-absent, handed-takes-off, group-reads, empty-taken, empty-takes-one, count-fewer}
+use Rattle.games.proofs.Least.{least-is, greatest-is}
+use Rattle.games.proofs.Handing.{kind-even, kind-odd}
+use Rattle.games.proofs.Turns.{absent-some, taken-fewer, played-large, played-small}
+
+-- ---- who is absent
+
+absent-elim : (r : Recovery) (p : ℕ) → absentOf r p ≡ true → Absent r p
+unfolding absentOf
+absent-elim r p e = let w = minus-elim (ltb p (sizeOf r)) (acceptedOf r .returned p) e in (ltb-true p (sizeOf r) (w .0), w .1)
+
+absent-intro : (r : Recovery) (p : ℕ) → Absent r p → absentOf r p ≡ true
+unfolding absentOf
+absent-intro r p a = minus-intro (lt-ltb p (sizeOf r) (a .0)) (a .1)
+
+taken-is : (a : Reply) → isTaken a ≡ true → a ≡ O.Taken
+unfolding isTaken
+taken-is O.Taken e = refl
+taken-is O.Repeated e = clash e refl
+taken-is (O.Refused j) e = clash e refl
+
+is-taken : (a : Reply) → a ≡ O.Taken → isTaken a ≡ true
+unfolding isTaken
+is-taken a e = rw e
+
+-- ---- the hill's turn
+
+-- half of a record's number is a set of places of the roster
+half-less : (j m : ℕ) → j < 2 * m → j / 2 < m
+half-less j m l = omega arith
+
+module _ {roster : List ℕ} {r : Recovery} (g : Good roster r) (p : ℕ) (a : Absent r p) where
+  on : p < length roster
+  on = rw (is-size g) at (a .0)
+
+  inside : (j : ℕ) → j < 2 * 2 ^ sizeOf r → (q : ℕ) → bit (j / 2) q ≡ true → q < length roster
+  inside j l q e = go (decLt q (length roster))
+    where
+      go : Dec (q < length roster) → q < length roster
+      go (yes h) = h
+      go (no h) = clash e (bit-high (j / 2) (sizeOf r) q (half-less j (2 ^ sizeOf r) l) (omega (arith, is-size g)))
+
+  -- a numbered record that is taken is one that a fetch may hand over
+  numbered-handed : (j : ℕ) → j < 2 * 2 ^ sizeOf r → isTaken (handed r p j .answer) ≡ true → HandedOver r p (layout (recordNumbered r p j))
+  unfolding handed recordNumbered
+  numbered-handed j l t = record {
+    stored = recordNumbered r p j;
+    rest = [];
+    reads = group-reads g p (kindNumbered j) (bit (j / 2)) on (inside j l);
+    own = refl;
+    accepted = inl (taken-is (handed r p j .answer) t);
+  }
+
+  -- the first one is empty
+  first-empty : handed r p 0 ≡ offered r (emptyRecord r p Full)
+  unfolding handed recordNumbered kindNumbered emptyRecord
+  first-empty = ap (λ (M : Row). offered r (layout (record { kind = Full; own = p; roster = rosterOf r; mourned = M }))) (fun-ext bit-zero)
+
+  module _ (k : ℕ) (some : absentCount r ≡ suc k) (then : (s : Recovery) → Good roster s → absentCount s ≡ k → crewsTurn k s ≡ count (sizeOf s) (blockingOf s)) where
+    abbrev rest : ℕ
+    rest = count (sizeOf r) (without p (blockingOf r))
+
+    -- no record makes the rest longer than an empty one does
+    numbered-below : (j : ℕ) → j < 2 * 2 ^ sizeOf r → lasting (crewsTurn k) (handed r p j) ≤ rest
+    unfolding lasting handed left
+    numbered-below j l = go (isTaken (handed r p j .answer)) refl
+      where
+        b : List ℕ
+        b = layout (recordNumbered r p j)
+
+        go : (t : Bool) → isTaken (handed r p j .answer) ≡ t → cond t (crewsTurn k (handed r p j .recovery)) 0 ≤ rest
+        go false e = omega arith
+        go true e =
+            let m = count-subset (sizeOf r) (blockingOf (offered r b .recovery)) (without p (blockingOf r)) (λ q _. handed-takes-off g (numbered-handed j l e) [] q) in
+            let f : crewsTurn k (offered r b .recovery) ≡ count (sizeOf (offered r b .recovery)) (blockingOf (offered r b .recovery)) = then (offered r b .recovery) (offered-good g b) (omega (arith, some, taken-fewer r b e)) in
+            let c : sizeOf (offered r b .recovery) ≡ sizeOf r = is-size (offered-good g b) ∙ sym (is-size g) in
+            rw (f, c) m
+
+    empty-lasts : lasting (crewsTurn k) (handed r p 0) ≡ rest
+    unfolding lasting
+    empty-lasts =
+        let b : List ℕ = emptyRecord r p Full in
+        let t : isTaken (offered r b .answer) ≡ true = is-taken (offered r b .answer) (empty-taken g p Full a) in
+        let c : sizeOf (offered r b .recovery) ≡ sizeOf r = is-size (offered-good g b) ∙ sym (is-size g) in
+        ap (lasting (crewsTurn k)) first-empty ∙ ap (λ (x : Bool). cond x (crewsTurn k (offered r b .recovery)) 0) t
+        ∙ then (offered r b .recovery) (offered-good g b) (omega (arith, some, taken-fewer r b t))
+        ∙ ap₂ count c (empty-takes-one g p Full a)
+
+    hill-is : hillsTurn (crewsTurn k) r p ≡ rest
+    unfolding hillsTurn
+    hill-is = greatest-is (2 * 2 ^ sizeOf r) (λ j. lasting (crewsTurn k) (handed r p j)) 0 rest (omega (arith, word-less (sizeOf r) nothing)) empty-lasts numbered-below
+
+-- ---- the crew's turn
+
+module _ {roster : List ℕ} {r : Recovery} (g : Good roster r) (k : ℕ) (some : absentCount r ≡ suc k)
+    (then : (s : Recovery) → Good roster s → absentCount s ≡ k → crewsTurn k s ≡ count (sizeOf s) (blockingOf s)) where
+  -- where some place blocks, a fetch of it is as good as any
+  best-is : any (sizeOf r) (blockingOf r) ≡ true → suc (least (sizeOf r) (absentOf r) (hillsTurn (crewsTurn k) r)) ≡ count (sizeOf r) (blockingOf r)
+  best-is e = ap suc (least-is n (absentOf r) (hillsTurn (crewsTurn k) r) b (count n (without b S)) (w .1) (absent-intro r b first) (hill-is g b first k some then) others) ∙ sym fewer
+    where
+      n : ℕ
+      n = sizeOf r
+
+      S : Row
+      S = blockingOf r
+
+      w : (b : ℕ) × (b < n) × (S b ≡ true)
+      w = any-elim n S e
+
+      b : ℕ
+      b = w .0
+
+      first : Absent r b
+      first = blocks-absent r b (w .2)
+
+      fewer : count n S ≡ suc (count n (without b S))
+      fewer = count-without n S b (w .1) (w .2)
+
+      others : (q : ℕ) → q < n → absentOf r q ≡ true → count n (without b S) ≤ hillsTurn (crewsTurn k) r q
+      others q l t = rw (hill-is g q (absent-elim r q t) k some then) (omega (arith, fewer, count-fewer n S q l))
+
+  crew-some : crewsTurn (suc k) r ≡ count (sizeOf r) (blockingOf r)
+  unfolding crewsTurn
+  crew-some = go (split (any (sizeOf r) (blockingOf r)))
+    where
+      go : (any (sizeOf r) (blockingOf r) ≡ true) ⊎ (any (sizeOf r) (blockingOf r) ≡ false)
+          → cond (settledOf r) 0 (suc (least (sizeOf r) (absentOf r) (hillsTurn (crewsTurn k) r))) ≡ count (sizeOf r) (blockingOf r)
+      go (inl e) = ap (λ (t : Bool). cond t 0 (suc (least (sizeOf r) (absentOf r) (hillsTurn (crewsTurn k) r)))) (some-blocks r e .0) ∙ best-is e
+      go (inr e) = let w = none-blocks r e in ap (λ (t : Bool). cond t 0 (suc (least (sizeOf r) (absentOf r) (hillsTurn (crewsTurn k) r)))) (w .0) ∙ sym (w .2)
+
+-- of any recovery whatever: where nobody is absent, nobody blocks, and the whole is settled
+none-absent : (r : Recovery) → absentCount r ≡ 0 → any (sizeOf r) (blockingOf r) ≡ false
+none-absent r e = none-any (sizeOf r) (blockingOf r) (λ b _. is-false (blockingOf r b) (λ t. omega (arith, absent-some r b (absent-intro r b (blocks-absent r b t)))))
+
+pub nobody-settled : (r : Recovery) → absentCount r ≡ 0 → settledOf r ≡ true
+nobody-settled r e = none-blocks r (none-absent r e) .0
+
+-- so the game lasts as many fetches as places block, whatever the roster's length
+crew-is : {roster : List ℕ} (k : ℕ) (r : Recovery) → Good roster r → absentCount r ≡ k → crewsTurn k r ≡ count (sizeOf r) (blockingOf r)
+unfolding crewsTurn
+crew-is zero r g e = sym (none-blocks r (none-absent r e) .2)
+crew-is (suc k) r g e = crew-some g k e (crew-is k)
+
+-- ---- every record
+
+-- the number of the record of a kind and a mourned set
+numberOf : ℕ → Kind → Row → ℕ
+numberOf n Full M = 2 * word n M
+numberOf n Short M = 2 * word n M + 1
+
+number-half : (n : ℕ) (k : Kind) (M : Row) → numberOf n k M / 2 ≡ word n M
+unfolding numberOf
+number-half n Full M = omega arith
+number-half n Short M = omega arith
+
+number-kind : (n : ℕ) (k : Kind) (M : Row) → kindNumbered (numberOf n k M) ≡ k
+unfolding numberOf
+number-kind n Full M = sym (kind-even (2 * word n M) (omega arith))
+number-kind n Short M = sym (kind-odd (2 * word n M + 1) (λ e. omega arith))
+
+number-less : (n : ℕ) (k : Kind) (M : Row) → numberOf n k M < 2 * 2 ^ n
+unfolding numberOf
+number-less n Full M = omega (arith, word-less n M)
+number-less n Short M = omega (arith, word-less n M)
+
+-- the digits of the number of a set of a roster's places are its members
+word-digits : (n : ℕ) (M : Row) → ((q : ℕ) → M q ≡ true → q < n) → bit (word n M) ≡ M
+word-digits n M inside = fun-ext (λ q. go q (decLt q n))
+  where
+    go : (q : ℕ) → Dec (q < n) → bit (word n M) q ≡ M q
+    go q (yes l) = bit-word n M q l
+    go q (no l) = bit-high (word n M) n q (word-less n M) (omega arith) ∙ sym (is-false (M q) (λ e. l (inside q e)))
+
+module _ {roster : List ℕ} {r : Recovery} (g : Good roster r) {p : ℕ} {bytes : List ℕ} (h : HandedOver r p bytes) where
+  abbrev x : Stored
+  x = h .stored
+
+  own-roster : x .roster ≡ rosterOf r
+  own-roster =
+      let w = offered-enters g bytes (h .accepted) in
+      ap (λ (y : Stored). y .roster) (same-record (h .reads) (ap (λ (a : ℕ → ℕ). lone a bytes) (is-alias g) ∙ w .of-group .reads)) ∙ w .of-group .same-roster ∙ sym (is-roster g)
+
+  j : ℕ
+  j = numberOf (sizeOf r) (x .kind) (x .mourned)
+
+  mourned-inside : (q : ℕ) → x .mourned q ≡ true → q < sizeOf r
+  mourned-inside q e = omega (arith, lone-on (aliasOf r) bytes x (h .rest) (h .reads) .1 q e, ap length (own-roster ∙ is-roster g), is-size g)
+
+  same-stored : recordNumbered r p j ≡ x
+  unfolding recordNumbered j
+  same-stored = λ i. record {
+    kind = number-kind (sizeOf r) (x .kind) (x .mourned) i;
+    own = sym (h .own) i;
+    roster = sym own-roster i;
+    mourned = (ap bit (number-half (sizeOf r) (x .kind) (x .mourned)) ∙ word-digits (sizeOf r) (x .mourned) mourned-inside) i;
+  }
+
+  own-on : p < length roster
+  own-on = omega (arith, lone-on (aliasOf r) bytes x (h .rest) (h .reads) .0, h .own, ap length (own-roster ∙ is-roster g))
+
+  numbered-reads : lone (aliasOf r) (layout (recordNumbered r p j)) ≡ got (recordNumbered r p j) []
+  unfolding recordNumbered
+  numbered-reads =
+      group-reads g p (kindNumbered j) (bit (j / 2)) own-on
+      (λ q e. rw (is-size g) at (mourned-inside q (sym (ap (λ (y : Stored). y .mourned q) same-stored) ∙ e)))
+
+  -- a record that is handed over has a number
+  every-from : (i : ℕ) × (i < 2 * 2 ^ sizeOf r) × (handed r p i ≡ offered r bytes)
+  unfolding handed offered offeredAs j
+  every-from =
+      (j, number-less (sizeOf r) (x .kind) (x .mourned), ap (offeredAs r) numbered-reads ∙ ap (judged r) same-stored ∙ sym (ap (offeredAs r) (h .reads)))
+
+-- ---- the statements
+
+module _ {roster : List ℕ} (f : Free roster) (cs : List Call) where
+  -- after any calls, on a roster of at most four: the game played out lasts as many fetches as are told
+  pub played-as-told : length roster ≤ 4 → played (reached roster cs) ≡ P.Fetches (number (fetchingOf (reached roster cs)))
+  played-as-told few =
+      let r : Recovery = reached roster cs in
+      sym (played-small r (rw (is-size (good-left f cs)) few) (number (fetchingOf r)) (number-is r ∙ sym (crew-is (absentCount r) r (good-left f cs) refl)))
+
+  -- and on a larger one it is refused
+  pub played-17 : 4 < length roster → played (reached roster cs) ≡ P.Refused 17
+  played-17 many = sym (played-large (reached roster cs) (rw (is-size (good-left f cs)) many))
+
+  -- whatever a fetch may hand over, the hill has a record that does just the same
+  pub every-record : {p : ℕ} {bytes : List ℕ} → HandedOver (reached roster cs) p bytes
+      → (i : ℕ) × (i < 2 * 2 ^ sizeOf (reached roster cs)) × (handed (reached roster cs) p i ≡ offered (reached roster cs) bytes)
+  every-record h = every-from (good-left f cs) h
+
+  -- and it has no others: each that is taken is one that a fetch may hand over
+  pub no-other-record : (p : ℕ) → Absent (reached roster cs) p → (i : ℕ) → i < 2 * 2 ^ sizeOf (reached roster cs) → isTaken (handed (reached roster cs) p i .answer) ≡ true
+      → HandedOver (reached roster cs) p (layout (recordNumbered (reached roster cs) p i))
+  no-other-record p a = numbered-handed (good-left f cs) p a
