@@ -30,7 +30,7 @@ use Rattle.replies.specs.declared.Reply.{Reply}
 use Rattle.replies.specs.declared.Reply.the-variants as O
 use Rattle.games.specs.Games.{absentOf, kindNumbered, recordNumbered, handed, isTaken}
 
--- ---- replies and kinds
+-- ---- replies
 
 module _ (a : Reply) where
   pub said-taken : a ≡ O.Taken → true ≡ isTaken a
@@ -44,14 +44,6 @@ module _ (a : Reply) where
   pub said-refused : (j : ℕ) → a ≡ O.Refused j → false ≡ isTaken a
   unfolding isTaken
   said-refused j e = rw e
-
-pub kind-even : (j : ℕ) → j % 2 ≡ 0 → Full ≡ kindNumbered j
-unfolding kindNumbered
-kind-even j e = rw (eq-eqb (j % 2) 0 e)
-
-pub kind-odd : (j : ℕ) → (j % 2 ≡ 0 → ⊥) → Short ≡ kindNumbered j
-unfolding kindNumbered
-kind-odd j e = rw (ne-eqb (j % 2) 0 e)
 
 -- ---- the absent places
 

@@ -3,20 +3,19 @@ use mathlib.Core.Path.{_≡_, refl, sym, ap, ap₂, _∙_, fun-ext}
 use mathlib.Core.Bool.{Bool, true, false, cond}
 use mathlib.Core.Logic.{_⊎_, inl, inr}
 use mathlib.Core.List.{List, []}
-use Prim.Native.Nat.{ℕ, zero, suc, _+_, _*_, _/_, _%_, _^_, _<_, _≤_}
+use Prim.Native.Nat.{ℕ, zero, suc, _/_, _<_, _≤_}
 use native.Mathlib.Omega.{arith}
 use native.Mathlib.Decide.{decLt}
 use lib.ListN.{length}
 use lib.Dec.{ltb}
 use borrow.Author.Tests.{ltb-true, lt-ltb}
 use Rattle.places.specs.Sets.{nothing, without, any, count, lowest}
-use Rattle.places.specs.PlaceSets.{bit, word}
+use Rattle.places.specs.PlaceSets.{bit}
 use Rattle.places.proofs.Booleans.{split, clash, is-false, minus-elim, minus-intro}
 use Rattle.places.proofs.Tests.{any-elim, none-any}
 use Rattle.places.proofs.Counting.{count-subset, count-without}
-use Rattle.places.proofs.Digits.{bit-zero, bit-high, bit-word, word-less}
-use Rattle.histories.specs.declared.Kind.{Kind}
-use Rattle.histories.specs.declared.Kind.the-variants.{Full, Short}
+use Rattle.places.proofs.Digits.{bit-zero, bit-high}
+use Rattle.histories.specs.declared.Kind.the-variants.{Full}
 use Rattle.histories.specs.Histories.{Row}
 use Rattle.records.specs.Layout.{got, Stored, lone, layout}
 use Rattle.replies.specs.declared.Reply.{Reply}
@@ -31,10 +30,10 @@ use Rattle.recovery.proofs.Single.{same-record}
 use Rattle.recovery.proofs.Later.{offered-good, offered-enters}
 use Rattle.games.specs.declared.Played.the-variants as P
 use Rattle.games.specs.Fetched.{number, Absent, HandedOver, emptyRecord}
-use Rattle.games.specs.Games.{absentOf, absentCount, least, greatest, kindNumbered, recordNumbered, handed, isTaken, lasting, hillsTurn, crewsTurn, played}
+use Rattle.games.specs.Games.{absentOf, absentCount, least, kindNumbered, recordNumbered, recordCount, handed, isTaken, lasting, hillsTurn, crewsTurn, played}
 use Rattle.games.proofs.Fetched.{some-blocks, none-blocks, number-is, blocks-absent, handed-takes-off, group-reads, empty-taken, empty-takes-one, count-fewer}
+use Rattle.games.proofs.Numbers.{HasNumber, has-number, half-less, some-numbers}
 use Rattle.games.proofs.Least.{least-is, greatest-is}
-use Rattle.games.proofs.Handing.{kind-even, kind-odd}
 use Rattle.games.proofs.Turns.{absent-some, taken-fewer, played-large, played-small}
 
 -- ---- who is absent
@@ -59,23 +58,19 @@ is-taken a e = rw e
 
 -- ---- the hill's turn
 
--- half of a record's number is a set of places of the roster
-half-less : (j m : ℕ) → j < 2 * m → j / 2 < m
-half-less j m l = omega arith
-
 module _ {roster : List ℕ} {r : Recovery} (g : Good roster r) (p : ℕ) (a : Absent r p) where
   on : p < length roster
   on = rw (is-size g) at (a .0)
 
-  inside : (j : ℕ) → j < 2 * 2 ^ sizeOf r → (q : ℕ) → bit (j / 2) q ≡ true → q < length roster
+  inside : (j : ℕ) → j < recordCount r → (q : ℕ) → bit (j / 2) q ≡ true → q < length roster
   inside j l q e = go (decLt q (length roster))
     where
       go : Dec (q < length roster) → q < length roster
       go (yes h) = h
-      go (no h) = clash e (bit-high (j / 2) (sizeOf r) q (half-less j (2 ^ sizeOf r) l) (omega (arith, is-size g)))
+      go (no h) = clash e (bit-high (j / 2) (sizeOf r) q (half-less r j l) (omega (arith, is-size g)))
 
   -- a numbered record that is taken is one that a fetch may hand over
-  numbered-handed : (j : ℕ) → j < 2 * 2 ^ sizeOf r → isTaken (handed r p j .answer) ≡ true → HandedOver r p (layout (recordNumbered r p j))
+  numbered-handed : (j : ℕ) → j < recordCount r → isTaken (handed r p j .answer) ≡ true → HandedOver r p (layout (recordNumbered r p j))
   unfolding handed recordNumbered
   numbered-handed j l t = record {
     stored = recordNumbered r p j;
@@ -95,7 +90,7 @@ module _ {roster : List ℕ} {r : Recovery} (g : Good roster r) (p : ℕ) (a : A
     rest = count (sizeOf r) (without p (blockingOf r))
 
     -- no record makes the rest longer than an empty one does
-    numbered-below : (j : ℕ) → j < 2 * 2 ^ sizeOf r → lasting (crewsTurn k) (handed r p j) ≤ rest
+    numbered-below : (j : ℕ) → j < recordCount r → lasting (crewsTurn k) (handed r p j) ≤ rest
     unfolding lasting handed left
     numbered-below j l = go (isTaken (handed r p j .answer)) refl
       where
@@ -122,7 +117,7 @@ module _ {roster : List ℕ} {r : Recovery} (g : Good roster r) (p : ℕ) (a : A
 
     hill-is : hillsTurn (crewsTurn k) r p ≡ rest
     unfolding hillsTurn
-    hill-is = greatest-is (2 * 2 ^ sizeOf r) (λ j. lasting (crewsTurn k) (handed r p j)) 0 rest (omega (arith, word-less (sizeOf r) nothing)) empty-lasts numbered-below
+    hill-is = greatest-is (recordCount r) (λ j. lasting (crewsTurn k) (handed r p j)) 0 rest (some-numbers r) empty-lasts numbered-below
 
 -- ---- the crew's turn
 
@@ -177,34 +172,6 @@ crew-is (suc k) r g e = crew-some g k e (crew-is k)
 
 -- ---- every record
 
--- the number of the record of a kind and a mourned set
-numberOf : ℕ → Kind → Row → ℕ
-numberOf n Full M = 2 * word n M
-numberOf n Short M = 2 * word n M + 1
-
-number-half : (n : ℕ) (k : Kind) (M : Row) → numberOf n k M / 2 ≡ word n M
-unfolding numberOf
-number-half n Full M = omega arith
-number-half n Short M = omega arith
-
-number-kind : (n : ℕ) (k : Kind) (M : Row) → kindNumbered (numberOf n k M) ≡ k
-unfolding numberOf
-number-kind n Full M = sym (kind-even (2 * word n M) (omega arith))
-number-kind n Short M = sym (kind-odd (2 * word n M + 1) (λ e. omega arith))
-
-number-less : (n : ℕ) (k : Kind) (M : Row) → numberOf n k M < 2 * 2 ^ n
-unfolding numberOf
-number-less n Full M = omega (arith, word-less n M)
-number-less n Short M = omega (arith, word-less n M)
-
--- the digits of the number of a set of a roster's places are its members
-word-digits : (n : ℕ) (M : Row) → ((q : ℕ) → M q ≡ true → q < n) → bit (word n M) ≡ M
-word-digits n M inside = fun-ext (λ q. go q (decLt q n))
-  where
-    go : (q : ℕ) → Dec (q < n) → bit (word n M) q ≡ M q
-    go q (yes l) = bit-word n M q l
-    go q (no l) = bit-high (word n M) n q (word-less n M) (omega arith) ∙ sym (is-false (M q) (λ e. l (inside q e)))
-
 module _ {roster : List ℕ} {r : Recovery} (g : Good roster r) {p : ℕ} {bytes : List ℕ} (h : HandedOver r p bytes) where
   abbrev x : Stored
   x = h .stored
@@ -214,20 +181,18 @@ module _ {roster : List ℕ} {r : Recovery} (g : Good roster r) {p : ℕ} {bytes
       let w = offered-enters g bytes (h .accepted) in
       ap (λ (y : Stored). y .roster) (same-record (h .reads) (ap (λ (a : ℕ → ℕ). lone a bytes) (is-alias g) ∙ w .of-group .reads)) ∙ w .of-group .same-roster ∙ sym (is-roster g)
 
-  j : ℕ
-  j = numberOf (sizeOf r) (x .kind) (x .mourned)
-
   mourned-inside : (q : ℕ) → x .mourned q ≡ true → q < sizeOf r
   mourned-inside q e = omega (arith, lone-on (aliasOf r) bytes x (h .rest) (h .reads) .1 q e, ap length (own-roster ∙ is-roster g), is-size g)
 
+  own-number : HasNumber r (x .kind) (x .mourned)
+  own-number = has-number r (x .kind) (x .mourned) mourned-inside
+
+  abbrev j : ℕ
+  j = own-number .number
+
   same-stored : recordNumbered r p j ≡ x
-  unfolding recordNumbered j
-  same-stored = λ i. record {
-    kind = number-kind (sizeOf r) (x .kind) (x .mourned) i;
-    own = sym (h .own) i;
-    roster = sym own-roster i;
-    mourned = (ap bit (number-half (sizeOf r) (x .kind) (x .mourned)) ∙ word-digits (sizeOf r) (x .mourned) mourned-inside) i;
-  }
+  unfolding recordNumbered
+  same-stored = λ i. record { kind = own-number .kind i; own = sym (h .own) i; roster = sym own-roster i; mourned = own-number .mourned i }
 
   own-on : p < length roster
   own-on = omega (arith, lone-on (aliasOf r) bytes x (h .rest) (h .reads) .0, h .own, ap length (own-roster ∙ is-roster g))
@@ -239,10 +204,9 @@ module _ {roster : List ℕ} {r : Recovery} (g : Good roster r) {p : ℕ} {bytes
       (λ q e. rw (is-size g) at (mourned-inside q (sym (ap (λ (y : Stored). y .mourned q) same-stored) ∙ e)))
 
   -- a record that is handed over has a number
-  every-from : (i : ℕ) × (i < 2 * 2 ^ sizeOf r) × (handed r p i ≡ offered r bytes)
-  unfolding handed offered offeredAs j
-  every-from =
-      (j, number-less (sizeOf r) (x .kind) (x .mourned), ap (offeredAs r) numbered-reads ∙ ap (judged r) same-stored ∙ sym (ap (offeredAs r) (h .reads)))
+  every-from : (i : ℕ) × (i < recordCount r) × (handed r p i ≡ offered r bytes)
+  unfolding handed offered offeredAs
+  every-from = (j, own-number .less, ap (offeredAs r) numbered-reads ∙ ap (judged r) same-stored ∙ sym (ap (offeredAs r) (h .reads)))
 
 -- ---- the statements
 
@@ -259,10 +223,10 @@ module _ {roster : List ℕ} (f : Free roster) (cs : List Call) where
 
   -- whatever a fetch may hand over, the hill has a record that does just the same
   pub every-record : {p : ℕ} {bytes : List ℕ} → HandedOver (reached roster cs) p bytes
-      → (i : ℕ) × (i < 2 * 2 ^ sizeOf (reached roster cs)) × (handed (reached roster cs) p i ≡ offered (reached roster cs) bytes)
+      → (i : ℕ) × (i < recordCount (reached roster cs)) × (handed (reached roster cs) p i ≡ offered (reached roster cs) bytes)
   every-record h = every-from (good-left f cs) h
 
   -- and it has no others: each that is taken is one that a fetch may hand over
-  pub no-other-record : (p : ℕ) → Absent (reached roster cs) p → (i : ℕ) → i < 2 * 2 ^ sizeOf (reached roster cs) → isTaken (handed (reached roster cs) p i .answer) ≡ true
+  pub no-other-record : (p : ℕ) → Absent (reached roster cs) p → (i : ℕ) → i < recordCount (reached roster cs) → isTaken (handed (reached roster cs) p i .answer) ≡ true
       → HandedOver (reached roster cs) p (layout (recordNumbered (reached roster cs) p i))
   no-other-record p a = numbered-handed (good-left f cs) p a

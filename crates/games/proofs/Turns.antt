@@ -33,7 +33,7 @@ use Rattle.recovery.specs.Contracts.{sizeOf, rosterOf, aliasOf, acceptedOf, ofG
 use Rattle.recovery.proofs.Facts.{lone-on}
 use Rattle.recovery.proofs.Calls.{group-elim, entered-again, entered-new}
 use Rattle.recovery.proofs.Keeps.{size-few}
-use Rattle.games.specs.Games.{absentOf, absentCount, least, greatest, recordNumbered, handed, isTaken, lasting, hillsTurn, crewsTurn, played}
+use Rattle.games.specs.Games.{absentOf, absentCount, least, greatest, recordNumbered, recordCount, handed, isTaken, lasting, hillsTurn, crewsTurn, played}
 use Rattle.games.specs.declared.Played.the-variants as P
 use Rattle.games.proofs.Least.{least-bound, Looking, looking-first, looking-next, looking-done, greatest-next, greatest-stays, greatest-bound}
 
@@ -184,7 +184,7 @@ turn-bound (suc k) r = go (settledOf r) (turn-bound k)
     lasts below o false = omega arith
 
     hills : ((s : Recovery) → crewsTurn k s ≤ k) → (p : ℕ) → hillsTurn (crewsTurn k) r p ≤ k
-    hills below p = greatest-bound (2 * 2 ^ sizeOf r) (λ j. lasting (crewsTurn k) (handed r p j)) k (λ j _. lasts below (handed r p j) (isTaken (handed r p j .answer)))
+    hills below p = greatest-bound (recordCount r) (λ j. lasting (crewsTurn k) (handed r p j)) k (λ j _. lasts below (handed r p j) (isTaken (handed r p j .answer)))
 
     go : (t : Bool) → ((s : Recovery) → crewsTurn k s ≤ k) → cond t 0 (suc (least (sizeOf r) (absentOf r) (hillsTurn (crewsTurn k) r))) ≤ suc k
     go true below = omega arith
@@ -268,7 +268,7 @@ lasts r p j = lasting (crewsTurn (absentCount r - 1)) (handed r p j)
 -- every number is tried
 pub hill-done : (r : Recovery) (p n most number : ℕ) → sizeOf r ≤ 4 → n ≡ sizeOf r → most ≡ greatest number (lasts r p) → number ≤ (2 * 2 ^ n) % 2 ^ 64 → (2 * 2 ^ n) % 2 ^ 64 ≤ number
     → most ≡ hillsTurn (crewsTurn (absentCount r - 1)) r p
-unfolding hillsTurn
+unfolding hillsTurn recordCount
 hill-done r p n most number few is e low high =
     let f : number ≡ (2 * 2 ^ n) % 2 ^ 64 = omega arith in
     e ∙ ap (λ (m : ℕ). greatest m (lasts r p)) (f ∙ shl-exact {a = 2} 2 n 64 (omega arith) (omega arith) ∙ ap (λ (n : ℕ). 2 * 2 ^ n) is)

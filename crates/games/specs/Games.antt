@@ -43,13 +43,16 @@ greatest (suc j) f = max (greatest j f) (f j)
 
 -- ---- the records of a place
 
--- numbers below 2 * 2 ^ n stand for the records of a place on a roster of n: an even one is full and an odd one short, and the binary
--- digits of its half are the mourned places
+-- the records of a place have numbers below `recordCount`: an even one is full and an odd one short, and the binary digits of its half are
+-- the mourned places
 unfoldable pub kindNumbered : ℕ → Kind
 kindNumbered j = cond (eqb (j % 2) 0) Full Short
 
 unfoldable pub recordNumbered : Recovery → ℕ → ℕ → Stored
 recordNumbered r p j = record { kind = kindNumbered j; own = p; roster = rosterOf r; mourned = bit (j / 2) }
+
+unfoldable pub recordCount : Recovery → ℕ
+recordCount r = 2 * 2 ^ sizeOf r
 
 -- what handing it over gives
 unfoldable pub handed : Recovery → ℕ → ℕ → Offered
@@ -69,7 +72,7 @@ lasting turn o = cond (isTaken (o .answer)) (turn (o .recovery)) 0
 
 -- the hill's turn after a fetch of p: it makes the rest of the game last as long as any record of p can
 unfoldable pub hillsTurn : (Recovery → ℕ) → Recovery → ℕ → ℕ
-hillsTurn turn r p = greatest (2 * 2 ^ sizeOf r) (λ j. lasting turn (handed r p j))
+hillsTurn turn r p = greatest (recordCount r) (λ j. lasting turn (handed r p j))
 
 -- the crew's turn with k places absent: how many fetches are left where both play as well as can be. A settled whole needs none, and
 -- with nobody absent it is settled; otherwise the crew fetches a place that makes the rest shortest

@@ -20,8 +20,9 @@ use Rattle.shows.specs.Shows.{unshown, replaced, shownOpen, shownAs, shownIn}
 use Rattle.replies.specs.Replies.{sameKind, entering}
 use Rattle.recovery.specs.Contracts as C
 use Rattle.lists.specs.Lists as I
+use Rattle.fetches.specs.Fetches.{blockingBy, told}
 use Rattle.recovery.specs.Demand as D
-use Rattle.recovery.specs.Demand.{Call, offer, ask, show, check, whole, unmourned-count, find, give, write, list, Outcome, says, lent, lent-one, number, opened, taken, repeated, is-last, not-last, is-open, decided, shown, fits, fits-not, unsettled, given, not-found, first-of, second-of, ends, refused}
+use Rattle.recovery.specs.Demand.{Call, offer, ask, show, check, whole, to-fetch, unmourned-count, find, give, write, list, Outcome, says, lent, lent-one, number, opened, taken, repeated, is-last, not-last, is-open, decided, shown, fits, fits-not, unsettled, given, not-found, first-of, second-of, ends, fetches, refused}
 use Rattle.recovery.specs.Run as U
 
 unfoldable pub serials : List ℕ
@@ -115,6 +116,7 @@ lines =
     ∷ (list (replicate 3 9) ▸ lent-one (refused 13) (replicate 3 9))
     ∷ (list (replicate 6 9) ▸ lent-one D.listed (2 ∷ 0 ∷ 0 ∷ 1 ∷ 9 ∷ 9 ∷ []))
     ∷ (whole ▸ says unsettled)
+    ∷ (to-fetch ▸ says (fetches 2 1))
     ∷ (unmourned-count ▸ number 2)
     ∷ (find 103 ▸ says (first-of 2))
     ∷ (find 105 ▸ says not-found)
@@ -162,6 +164,7 @@ lines =
     ∷ (write 1 (replicate 27 9) 0 ▸ lent-one (ends 27) record-102)
     ∷ (ask 0 ▸ says not-last)
     ∷ (ask 3 ▸ says is-last)
+    ∷ (to-fetch ▸ says D.settled)
     -- a full record beside the short ones
     ∷ (offer lacking-103 ▸ says (refused 11))
     ∷ (offer full-103 ▸ says taken)
@@ -175,7 +178,7 @@ unfolding serials U.openingSays C.opened C.openedAs listed placeOf holds firstRe
 opening = refl
 
 pub listing : U.run (C.opened serials .recovery) (map callOf lines) ≡ map outcomeOf lines
-unfolding serials group record-101 record-104 full-101 other-101 circle-102 second-104 twice-102 itself-103 other-roster second-102 record-102 lacking-103 full-103 short-103 row first-rows second-rows callOf outcomeOf lines U.run U.next U.outcome U.offerSays U.askedSays U.showingSays U.checkedSays U.writingSays U.foundSays U.givingSays U.listingSays U.shownGives U.writtenGives U.listedGives I.answerByte I.bytesFrom I.laid I.listedIn C.listedOf C.sizeOf C.rosterOf C.secondsOf C.aliasOf C.acceptedOf C.fresh C.openedAs C.opened sameKind C.ofGroup C.saying C.keepingFull C.keepingRow C.keeping C.answered entering C.entered C.judged C.offeredAs C.offered C.answerAt C.askedAs C.asked unshown replaced shownOpen shownAs shownIn C.shown offRoster C.checkedRows C.checked C.settledOf C.unmournedOf C.unmournedCountOf C.foundIn C.withSecond C.gaveAs C.given isFound aliasIn foundAmong giving C.recordOf C.writtenOf size kindIn acceptedIn L.then L.check L.byte L.serial L.knownKind L.kindOf L.kindSection L.rosterSerials L.rosterSection L.headSection L.mournedSerials L.mournedSection L.stored L.lone L.kindByte L.serialBytes L.serialsBytes L.chosen L.layout sameList unwritten putAt writtenAt placeOf holds isSecond countsAs standsFor finding firstRepeat listed noRows rowAt rowsOf withRow bytesFrom rowBytes putRow rowIn historyIn rowsFrom laid bit has word packed any all subset same count lowest H.recorded H.mourned H.reach H.before H.isFull H.fullBack H.answerWith H.openAnswer H.noneOpen H.agrees H.accepts H.dutyMet H.fitsTest K.ruledOutBy K.blockersBy K.answerBy K.settledBy
+unfolding serials group record-101 record-104 full-101 other-101 circle-102 second-104 twice-102 itself-103 other-roster second-102 record-102 lacking-103 full-103 short-103 row first-rows second-rows callOf outcomeOf lines U.run U.next U.outcome U.offerSays U.askedSays U.showingSays U.checkedSays U.writingSays U.foundSays U.givingSays U.fetchingSays U.listingSays U.shownGives U.writtenGives U.listedGives I.answerByte I.bytesFrom I.laid I.listedIn C.listedOf C.sizeOf C.rosterOf C.secondsOf C.aliasOf C.acceptedOf C.fresh C.openedAs C.opened sameKind C.ofGroup C.saying C.keepingFull C.keepingRow C.keeping C.answered entering C.entered C.judged C.offeredAs C.offered C.answerAt C.askedAs C.asked unshown replaced shownOpen shownAs shownIn C.shown offRoster C.checkedRows C.checked C.settledOf blockingBy told C.blockingOf C.fetchingOf C.unmournedOf C.unmournedCountOf C.foundIn C.withSecond C.gaveAs C.given isFound aliasIn foundAmong giving C.recordOf C.writtenOf size kindIn acceptedIn L.then L.check L.byte L.serial L.knownKind L.kindOf L.kindSection L.rosterSerials L.rosterSection L.headSection L.mournedSerials L.mournedSection L.stored L.lone L.kindByte L.serialBytes L.serialsBytes L.chosen L.layout sameList unwritten putAt writtenAt placeOf holds isSecond countsAs standsFor finding firstRepeat listed noRows rowAt rowsOf withRow bytesFrom rowBytes putRow rowIn historyIn rowsFrom laid bit has word packed any all subset same count lowest H.recorded H.mourned H.reach H.before H.isFull H.fullBack H.answerWith H.openAnswer H.noneOpen H.agrees H.accepts H.dutyMet H.fitsTest K.ruledOutBy K.blockersBy K.answerBy K.settledBy
 listing = refl
 
 -- its two records in either order, and one of them once more, leave one recovery

@@ -1,5 +1,5 @@
 -- `games::kind_numbered` meets its contract. Assumes nothing.
-use Rattle.games.proofs.Handing.{kind-even, kind-odd}
+use Rattle.games.proofs.Numbers.{kind-even, kind-odd}
 use Rattle.games.proofs.kind_numbered.Statement.{statement}
 use Rattle.games.proofs.kind_numbered.Tie as tie
 
