@@ -1,9 +1,11 @@
 /*
  * Goatmonth: which controllers of a group stopped last, told from the records that the returned ones stored.
  *
- * The functions are proved code in three static libraries (`rt staticlib NAME` writes target/staticlib/libNAME.a): capi has those of a
- * recovery, capi_records those of stored records by themselves, capi_days those of a day. They use no heap and no threads, and keep nothing between calls: a recovery, and a day, is a plain struct in the caller's memory, made by opening it and
- * handed to every call. Copy it, store it or compare it as you like; calls on different structs may run at the same time.
+ * The functions are proved code in four static libraries (`rt staticlib NAME` writes target/staticlib/libNAME.a): capi has those of a
+ * recovery, capi_records those of stored records by themselves, capi_days those of a day, capi_fetches those that say what a crew has to
+ * fetch. They use no heap and no threads, and keep nothing between calls: a recovery, and a day, is a plain struct in the caller's memory,
+ * made by opening it and handed to every call. Copy it, store it or compare it as you like; calls on different structs may run at the same
+ * time.
  *
  * What the caller promises of each call:
  *   - a pointer is never null. It is aligned for its type, and good for the length passed behind it, or for the size of the array
@@ -12,7 +14,7 @@
  * Nothing else is asked. Every number and every byte has an answer, stated below: places and positions up to SIZE_MAX, damaged
  * records, and whatever values the words of a struct hold.
  *
- * A refusal is a number from 1 to 16. A refused call writes nothing; of a list of events, those before the refused one stand.
+ * A refusal is a number from 1 to 17. A refused call writes nothing; of a list of events, those before the refused one stand.
  *
  * The functions named gm_recovery_.., gm_day_start and so on are thin: they pass the parts of one struct to the library.
  */
@@ -74,7 +76,8 @@ enum {
     GM_TOO_SHORT = 13,       /* a buffer ends too early */
     GM_NOT_ALLOWED = 14,     /* an event that cannot happen now, or the record of one that runs or is not back */
     GM_BIT_OFF_ROSTER = 15,  /* a history names a place that the roster does not have */
-    GM_KNOWN_SERIAL = 16     /* a second serial that the group has already, or for a place that has one */
+    GM_KNOWN_SERIAL = 16,    /* a second serial that the group has already, or for a place that has one */
+    GM_TOO_MANY = 17         /* a roster of more than four members, for a game played out */
 };
 
 /* ---- structs ---- */
@@ -93,15 +96,18 @@ enum {
  * recoveries of their own.
  *
  * A caller that writes into the struct itself gets answers by what it wrote. The full, the mourned and the earlier places are what the
- * words say, and no call holds them against the rows. By the mourned ones go gm_ask, gm_list, gm_settled, gm_show and the three
- * gm_unmourned.., by the earlier ones gm_ask, gm_list, gm_settled and gm_show; gm_offer only adds to these two. The record of a place that
- * is back is its row, without bits off the roster, and full if the words say so: gm_offer, gm_check and gm_write go by these records, and
- * so do gm_ask, gm_list, gm_settled and gm_show where they follow records: they look there for mourned places only, so that a place that is
- * neither back nor among the mourned or the earlier ones keeps every other unmourned place open, whatever the rows say. A full place that
- * is not back counts for nothing until it is back; then its record is full, whatever kind was offered. gm_show lays the rows of the roster
- * down as they stand, whoever is back and with all their bits, but for the one row that makes the second history differ. gm_find, gm_give
- * and gm_offer go by `serials` and `seconds`: a second serial counts as the first one of its place, and is found at the lowest place where
- * that stands. Other bits off the roster, other rows, and what stands behind the roster in `serials` and `seconds` are never looked at.
+ * words say, and no call holds them against the rows. By the mourned ones go gm_ask, gm_list, gm_settled, gm_to_fetch, gm_show and the
+ * three gm_unmourned.., by the earlier ones gm_ask, gm_list, gm_settled, gm_to_fetch and gm_show; gm_offer only adds to these two. The
+ * record of a place that is back is its row, without bits off the roster, and full if the words say so: gm_offer, gm_check and gm_write go
+ * by these records, and so do gm_ask, gm_list, gm_settled, gm_to_fetch and gm_show where they follow records: they look there for mourned
+ * places only, so that a place that is neither back nor among the mourned or the earlier ones keeps every other unmourned place open,
+ * whatever the rows say. A full place that is not back counts for nothing until it is back; then its record is full, whatever kind was
+ * offered. gm_show lays the rows of the roster down as they stand, whoever is back and with all their bits, but for the one row that makes
+ * the second history differ. gm_find, gm_give and gm_offer go by `serials` and `seconds`: a second serial counts as the first one of its
+ * place, and is found at the lowest place where that stands. gm_play plays on by gm_settled's and gm_offer's rules: it is over where
+ * gm_settled gives 1, and what gm_offer takes is handed over. With a zero or a repeat on the roster gm_offer takes nothing, and a game that
+ * is not over lasts one fetch. Other bits off the roster, other rows, and what stands behind the roster in `serials` and `seconds` are
+ * never looked at.
  */
 typedef struct gm_recovery {
     uint64_t head[9];
@@ -144,6 +150,19 @@ typedef struct gm_found {
     uint64_t answer;
     uint64_t place;
 } gm_found;
+
+/* What a crew has to fetch: the number of fetches that surely suffices and the place to fetch next, or 0 and 128, which is no place, where
+ * no place is open. */
+typedef struct gm_fetching {
+    uint64_t number;
+    uint64_t place;
+} gm_fetching;
+
+/* What a game played out gives: GM_DONE and how many fetches it lasts, or a refusal and 0. */
+typedef struct gm_game {
+    uint64_t refusal;
+    uint64_t fetches;
+} gm_game;
 
 /* A record that was read: its kind, the place of its own serial, the position where its roster's serials start and how many they
  * are, the mourned places as two words, and the position behind the record. */
@@ -218,6 +237,22 @@ uint8_t gm_check(const uint64_t head[9], const uint8_t rows[2048], const uint8_t
  * written in its kind and in first serials, whichever its bytes had when it was offered. */
 gm_end gm_write(const uint64_t head[9], const uint32_t serials[128], const uint8_t rows[2048], size_t place, uint8_t *out, size_t length,
                 size_t at);
+
+/* ---- the library: what to fetch ---- */
+
+/*
+ * How many fetches surely suffice until no place is open, and the place to fetch next. A crew that fetches the place told here each time,
+ * and is handed any record of it that gm_offer does not refuse, is done within that number; and no crew can be sure of fewer. It is the
+ * number of places that are not back and keep some unmourned place open, and the lowest of them is next.
+ */
+gm_fetching gm_to_fetch(const uint64_t head[9], const uint8_t rows[2048]);
+
+/*
+ * The same number by the game itself, for rosters of up to four members: GM_DONE and how many fetches it lasts, or 17. The crew fetches
+ * the place that makes it shortest, the hill hands over the record, of either kind, that makes it longest, and so on until no place is
+ * open. It tries every record of every place that is not back: with four members and nobody back that takes about a tenth of a second.
+ */
+gm_game gm_play(const uint64_t head[9], const uint32_t serials[128], const uint32_t seconds[128], const uint8_t rows[2048]);
 
 /* ---- the library: records ---- */
 
@@ -324,6 +359,16 @@ static inline size_t gm_recovery_unmourned_count(const gm_recovery *r)
 static inline uint8_t gm_recovery_settled(const gm_recovery *r)
 {
     return gm_settled(r->head, r->rows);
+}
+
+static inline gm_fetching gm_recovery_to_fetch(const gm_recovery *r)
+{
+    return gm_to_fetch(r->head, r->rows);
+}
+
+static inline gm_game gm_recovery_play(const gm_recovery *r)
+{
+    return gm_play(r->head, r->serials, r->seconds, r->rows);
 }
 
 static inline uint8_t gm_recovery_show(const gm_recovery *r, size_t place, uint8_t *first, size_t first_length, uint8_t *second,

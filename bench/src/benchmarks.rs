@@ -2,6 +2,7 @@
 use crate::make::{self, Group, Layout, MIXES, SIZES};
 use crate::plain::Kind::Short;
 use crate::plain::boards::Boards;
+use crate::plain::game;
 use crate::plain::record;
 use crate::plain::recovery::{Answer, Offer, Recovery};
 use crate::plain::set::{Set, below};
@@ -26,6 +27,10 @@ pub fn run() {
     for (kinds, full) in MIXES {
         listing(&mut table, kinds, full);
     }
+    for (kinds, full) in MIXES {
+        fetching(&mut table, kinds, full);
+    }
+    playing(&mut table);
     for (kinds, full) in MIXES {
         showing(&mut table, kinds, full);
     }
@@ -162,6 +167,25 @@ fn listing(table: &mut Table, kinds: &str, full: Set) {
             calls(|| _ = black_box(library.list(black_box(&mut theirs))), || _ = black_box(black_box(&plain).list(black_box(&mut out))));
         table.add(&format!("listing every place, {kinds}"), n, times);
     }
+}
+
+// How many fetches suffice and which place is next, with half of the members back.
+fn fetching(table: &mut Table, kinds: &str, full: Set) {
+    for n in SIZES {
+        let (Scene { library, plain, .. }, _) = half_back(full, n);
+        let (number, place) = plain.to_fetch().expect("an open place");
+        assert_eq!(library.to_fetch(), proved::Fetching { number: number as u64, place: place as u64 });
+        let times = calls(|| _ = black_box(black_box(&library).to_fetch()), || _ = black_box(black_box(&plain).to_fetch()));
+        table.add(&format!("asking what to fetch, {kinds}"), n, times);
+    }
+}
+
+// The longest game that is played out: nobody is back.
+fn playing(table: &mut Table) {
+    let Scene { library, plain, .. } = scene(0, 0, 4, 50, 0);
+    assert_eq!((library.play(), game::play(&plain)), (proved::Game { refusal: 0, fetches: 4 }, Ok(4)));
+    let times = calls(|| _ = black_box(black_box(&library).play()), || _ = black_box(game::play(black_box(&plain))));
+    table.add("playing the game out, nobody back", 4, times);
 }
 
 // The last open place.

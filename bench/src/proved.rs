@@ -85,6 +85,22 @@ pub struct Found {
     pub place: u64,
 }
 
+// gm_fetching of the header.
+#[repr(C)]
+#[derive(Clone, Copy, Debug, PartialEq, Eq)]
+pub struct Fetching {
+    pub number: u64,
+    pub place: u64,
+}
+
+// gm_game of the header.
+#[repr(C)]
+#[derive(Clone, Copy, Debug, PartialEq, Eq)]
+pub struct Game {
+    pub refusal: u64,
+    pub fetches: u64,
+}
+
 // What gm_ask gives for a place, by its byte in gm_list.
 pub const ASKED: [u8; 3] = [34, 33, 35];
 
@@ -99,6 +115,8 @@ unsafe extern "C" {
     fn gm_unmourned_count(head: &Head) -> usize;
     fn gm_settled(head: &Head, rows: &Rows) -> u8;
     fn gm_list(head: &Head, rows: &Rows, out: *mut u8, length: usize) -> u8;
+    fn gm_to_fetch(head: &Head, rows: &Rows) -> Fetching;
+    fn gm_play(head: &Head, serials: &Serials, seconds: &Serials, rows: &Rows) -> Game;
     fn gm_show(head: &Head, rows: &Rows, place: usize, first: *mut u8, first_length: usize, second: *mut u8, second_length: usize) -> u8;
     fn gm_check(head: &Head, rows: &Rows, history: *const u8, length: usize) -> u8;
     fn gm_write(head: &Head, serials: &Serials, rows: &Rows, place: usize, out: *mut u8, length: usize, at: usize) -> End;
@@ -200,6 +218,14 @@ impl Recovery {
 
     pub fn list(&self, out: &mut [u8]) -> u8 {
         unsafe { gm_list(&self.head, &self.rows, out.as_mut_ptr(), out.len()) }
+    }
+
+    pub fn to_fetch(&self) -> Fetching {
+        unsafe { gm_to_fetch(&self.head, &self.rows) }
+    }
+
+    pub fn play(&self) -> Game {
+        unsafe { gm_play(&self.head, &self.serials, &self.seconds, &self.rows) }
     }
 
     pub fn show(&self, place: usize, first: &mut [u8], second: &mut [u8]) -> u8 {

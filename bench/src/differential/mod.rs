@@ -1,5 +1,6 @@
 // Random lists of calls, made of the library and of the plain implementation: every answer and every lent byte is compared, and
-// the whole struct after each call. List k of a run has the seed SEED + k, so that the seed of a difference starts with its list.
+// the whole struct after each call. List k of a run has the seed SEED + k, so that the seed of a difference starts with its list. A few
+// fixed games come first.
 mod day;
 mod records;
 mod recovery;
@@ -177,6 +178,7 @@ pub fn run(seed: u64, calls: u64) {
     let start = Instant::now();
     let mut run =
         Run { random: Random::new(seed), seed, call: 0, total: 0, name: "", numbers: Vec::new(), lent: Vec::new(), tally: BTreeMap::new() };
+    recovery::games(&mut run);
     let mut lists = 0;
     while run.total < calls {
         run.seed = seed.wrapping_add(lists);

@@ -3,9 +3,10 @@ use super::{Run, garbled, list_length, noise, put_row, row_of, set_of, words};
 use crate::make::{self, Group};
 use crate::plain::Refusal;
 use crate::plain::boards::Which;
+use crate::plain::game;
 use crate::plain::recovery::{Answer, Offer, Recovery, Showing};
 use crate::plain::set::{Set, below, members};
-use crate::proved::{self, ASKED, Found};
+use crate::proved::{self, ASKED, Fetching, Found, Game};
 
 // The library's recovery, what it has to be, and the plain one.
 struct Pair {
@@ -43,14 +44,16 @@ pub fn list(run: &mut Run) {
     }
     for _ in 0..list_length(&mut run.random) {
         match run.random.below(100) {
-            0..42 => offer(run, &mut pair),
-            42..46 => give(run, &mut pair),
-            46..56 => ask(run, &pair),
-            56..61 => find(run, &pair),
-            61..69 => sets(run, &pair),
-            69..75 => list_all(run, &pair),
-            75..84 => show(run, &pair),
-            84..94 => check(run, &pair),
+            0..40 => offer(run, &mut pair),
+            40..44 => give(run, &mut pair),
+            44..53 => ask(run, &pair),
+            53..58 => find(run, &pair),
+            58..65 => sets(run, &pair),
+            65..71 => list_all(run, &pair),
+            71..76 => to_fetch(run, &pair),
+            76..78 => play(run, &pair),
+            78..86 => show(run, &pair),
+            86..95 => check(run, &pair),
             _ => write(run, &pair),
         }
         run.same("the recovery afterwards", &pair.wanted, &pair.library);
@@ -59,7 +62,22 @@ pub fn list(run: &mut Run) {
         ask_one(run, &pair, place);
     }
     list_all(run, &pair);
+    to_fetch(run, &pair);
     run.same("the recovery afterwards", &pair.wanted, &pair.library);
+}
+
+// Fixed games: up to four members with nobody back, of which no list has the longest, and five, which are refused.
+pub fn games(run: &mut Run) {
+    for (n, back) in [(1, 0), (2, 0), (3, 0), (4, 0), (5, 4), (5, 0)] {
+        let mut pair = open(run, Group { full: 0, roster: (101..101 + n).collect(), truth: vec![0; n as usize] });
+        for place in 0..back {
+            let record = pair.group.record(place).bytes();
+            offer_bytes(run, &mut pair, &record);
+        }
+        to_fetch(run, &pair);
+        game(run, &pair);
+        run.same("the recovery afterwards", &pair.wanted, &pair.library);
+    }
 }
 
 // An opening that is refused often.
@@ -128,19 +146,23 @@ fn offer(run: &mut Run, pair: &mut Pair) {
     // of a recovery that no call has made those behind the roster too
     let seconds = if pair.opened { &pair.plain.seconds[..] } else { &pair.library.seconds[..] };
     let bytes = make::offer(&mut run.random, &pair.group, seconds);
-    run.begin("offer", &[], &bytes);
+    offer_bytes(run, pair, &bytes);
+}
+
+fn offer_bytes(run: &mut Run, pair: &mut Pair, bytes: &[u8]) {
+    run.begin("offer", &[], bytes);
     let (back, kept) = (pair.plain.returned, pair.plain.earlier);
     if !pair.opened {
         // a record is judged by the rows, where the plain one may look at the earlier set first
         pair.plain.earlier = in_rows(&pair.plain, back & pair.plain.full);
     }
     let full = pair.plain.full;
-    let plain = match pair.plain.offer(&bytes) {
+    let plain = match pair.plain.offer(bytes) {
         Ok(Offer::Taken) => 0,
         Ok(Offer::Repeated) => 32,
         Err(refusal) => refusal,
     };
-    let library = pair.library.offer(&bytes);
+    let library = pair.library.offer(bytes);
     run.answer(plain as u64, library as u64);
     let taken = pair.plain.returned & !back;
     if !pair.opened {
@@ -248,6 +270,40 @@ fn list_all(run: &mut Run, pair: &Pair) {
         let [listed, theirs] = [&mut out, &mut theirs].map(|buffer| ASKED[buffer.part()[place] as usize]);
         run.same("a place asked, and listed", &number(pair.plain.ask(place)), &theirs);
         run.same("a place listed, and asked", &listed, &pair.library.ask(place));
+    }
+}
+
+// How many fetches suffice and which place is next, counted by whether there is none.
+fn to_fetch(run: &mut Run, pair: &Pair) {
+    run.begin("to_fetch", &[], &[]);
+    let plain = match pair.plain.to_fetch() {
+        Some((number, place)) => Fetching { number: number as u64, place: place as u64 },
+        None => Fetching { number: 0, place: 128 },
+    };
+    let library = pair.library.to_fetch();
+    run.same("what to fetch", &plain, &library);
+    run.answer((plain.number == 0) as u64, (library.number == 0) as u64);
+}
+
+// A game, but for those of four with nobody back, which are long.
+fn play(run: &mut Run, pair: &Pair) {
+    if pair.plain.roster.len() != 4 || pair.plain.returned != 0 {
+        game(run, pair);
+    }
+}
+
+// A game played out, counted by how many fetches it lasts, or by its refusal.
+fn game(run: &mut Run, pair: &Pair) {
+    run.begin("play", &[], &[]);
+    let plain = match game::play(&pair.plain) {
+        Ok(fetches) => Game { refusal: 0, fetches: fetches as u64 },
+        Err(refusal) => Game { refusal: refusal as u64, fetches: 0 },
+    };
+    let library = pair.library.play();
+    run.same("the game", &plain, &library);
+    run.answer(plain.refusal + plain.fetches, library.refusal + library.fetches);
+    if pair.opened && plain.refusal == 0 {
+        run.same("fetches told, and played", &pair.library.to_fetch().number, &library.fetches);
     }
 }
 

@@ -1,7 +1,8 @@
-// The same product in plain Rust, written from document 01 and from [2] to [5] of document 02 alone: nothing here is shared with the
+// The same product in plain Rust, written from document 01 and from [2] to [6] of document 02 alone: nothing here is shared with the
 // proved library.
 pub mod boards;
 pub mod day;
+pub mod game;
 pub mod program;
 pub mod record;
 pub mod recovery;

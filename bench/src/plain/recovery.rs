@@ -1,4 +1,4 @@
-// A recovery: offering, giving second serials, asking, listing, showing, checking.
+// A recovery: offering, giving second serials, asking, listing, what to fetch, showing, checking.
 use super::boards::{Boards, Which};
 use super::record::{self, Record};
 use super::set::{Set, below, has, members};
@@ -209,6 +209,21 @@ impl Recovery {
             front[place] = self.answer(place) as u8;
         }
         Ok(())
+    }
+
+    // How many fetches surely suffice until the whole is settled, and the place to fetch next: the places that block some unmourned one are
+    // so many, and the lowest of them is next. Nothing where there is none.
+    pub fn to_fetch(&self) -> Option<(usize, usize)> {
+        // no other place can be among them
+        let most = below(self.roster.len()) & !self.returned & !self.earlier;
+        let mut blocking = 0;
+        for place in members(self.unmourned()) {
+            blocking |= self.blockers(place);
+            if blocking == most {
+                break;
+            }
+        }
+        (blocking != 0).then(|| (blocking.count_ones() as usize, blocking.trailing_zeros() as usize))
     }
 
     pub fn show(&self, place: usize, first: &mut [u8], second: &mut [u8]) -> Result<Showing, Refusal> {

@@ -10,7 +10,7 @@ fn set(controllers: &[usize]) -> Set {
 }
 
 // Offers the record of a controller, counted from 1, and gives 0 for taken.
-fn offer(r: &mut Recovery, kind: Kind, own: usize, mourned: &[usize]) -> u8 {
+pub fn offer(r: &mut Recovery, kind: Kind, own: usize, mourned: &[usize]) -> u8 {
     let bytes = Layout::new(kind, &r.roster, own - 1, set(mourned)).bytes();
     match r.offer(&bytes) {
         Ok(Taken) => 0,

@@ -1,5 +1,5 @@
 // The answers against all histories of small rosters, and against days that end.
-use super::open;
+use super::{fetches, open};
 use crate::make::{self, Layout};
 use crate::plain::Kind::{self, Full, Short};
 use crate::plain::day::{Day, Event};
@@ -115,7 +115,7 @@ fn pile_checks(pile: &[Option<Record>], all: &[Rows]) -> u64 {
         (unmourned, unmourned & !r.returned, unmourned.count_ones() as usize)
     );
     assert_eq!(r.settled(), (0..n).all(|p| r.ask(p) != Ok(Open)));
-    (2 * n + 2 * n * (1 << n) + all.len() + 4) as u64
+    (2 * n + 2 * n * (1 << n) + all.len() + 4) as u64 + fetches::guided(&r)
 }
 
 // Days that end: every record is taken in any order, and what is answered on the way is true of the day.

@@ -1,8 +1,9 @@
-// The plain implementation by itself: document 01's listing and cases, both kinds in one group, board swaps, the ticket desk, and all
-// histories of small rosters.
+// The plain implementation by itself: document 01's listing and cases, both kinds in one group, board swaps, the ticket desk, what to fetch,
+// and all histories of small rosters.
 mod boards;
 mod cases;
 mod desk;
+mod fetches;
 mod histories;
 mod records;
 
@@ -28,6 +29,7 @@ pub fn run() {
         ("faults of a record for the ticket desk", desk::faults),
         ("second serials for the ticket desk", desk::second_serials),
         ("what the ticket desk may not see", desk::hidden),
+        ("what to fetch", fetches::table),
         ("all histories, up to 3 members", histories::enumeration),
         ("days", histories::days),
     ] {

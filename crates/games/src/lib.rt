@@ -22,6 +22,7 @@ pub enum Played {
     Refused(u8),
 }
 
+// The smaller of two numbers.
 fn smaller(a: usize, b: usize) -> usize
     ensures { λ r. ⌜ r ≡ min a b ⌝ }
 {
@@ -31,13 +32,14 @@ fn smaller(a: usize, b: usize) -> usize
     b
 }
 
+// The larger of two numbers.
 fn larger(a: usize, b: usize) -> usize
     ensures { λ r. ⌜ r ≡ max a b ⌝ }
 {
-    if a < b {
-        return b;
+    if b < a {
+        return a;
     }
-    a
+    b
 }
 
 // The absent places.
