@@ -107,7 +107,7 @@ fn laid(pile: Pile, c: Case, place: usize) -> Pile {
 }
 
 // All records of a case, whether they are taken or not.
-fn whole(c: Case) -> Pile {
+pub fn whole(c: Case) -> Pile {
     let pile = laid(matrices::no_pile(), c, 0);
     let pile = laid(pile, c, 1);
     let pile = laid(pile, c, 2);

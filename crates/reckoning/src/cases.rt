@@ -13,8 +13,9 @@ pub struct Case {
     pub order: u32,
 }
 
-fn base(n: usize) -> u32
-    ensures { λ r. ⌜ 0 < r ⌝ }
+// How many digits a place may have.
+pub fn base(n: usize) -> u32
+    ensures { λ r. ⌜ (0 < r) × (r ≤ 33) ⌝ }
 {
     match n {
         1 => 5,
@@ -45,6 +46,15 @@ pub fn orders(n: usize) -> u32
         2 => 2,
         3 => 6,
         _ => 24,
+    }
+}
+
+// How much a pile's number grows by a place's digit 1, on a roster of at most three.
+pub fn weight(n: usize, place: usize) -> u32 {
+    match place {
+        0 => 1,
+        1 => base(n),
+        _ => 289,
     }
 }
 

@@ -214,6 +214,25 @@ pub fn count(list: &[u32], mask: u32, rows: u32, empty: u32) -> usize {
     n
 }
 
+fn if_fits(m: u32, pile: Pile) -> u32 {
+    if m & pile.mask != pile.rows {
+        return 0;
+    }
+    matrix(m)
+}
+
+// The bits that stand in some history that fits.
+fn in_some(list: &[u32], pile: Pile) -> u32 {
+    let mut bits = 0;
+    let mut i = 0;
+    while i < list.len() {
+        let own = if_fits(list[i], pile);
+        bits |= own;
+        i += 1;
+    }
+    bits
+}
+
 // The pile with a record of place p: its row is the mourned set, and holds everyone before p where the record is full.
 pub fn with(pile: Pile, kind: u8, p: usize, mourned: u32) -> Pile {
     let bits = at_row(p, 15);
@@ -342,4 +361,14 @@ pub fn unmourned_absent(n: usize, pile: Pile) -> u32 {
 // How many bits a row has.
 pub fn size(row: u32) -> u32 {
     row % 2 + row / 2 % 2 + row / 4 % 2 + row / 8 % 2
+}
+
+// The places whose row holds an unmourned place in some history that fits, as bits.
+pub fn blocking(list: &[u32], n: usize, pile: Pile) -> u32 {
+    let some = in_some(list, pile);
+    let free = unmourned(n, pile);
+    if_member(row(some, 0), free, 1)
+        | if_member(row(some, 1), free, 2)
+        | if_member(row(some, 2), free, 4)
+        | if_member(row(some, 3), free, 8)
 }

@@ -1,5 +1,7 @@
 // Every outcome as one number: a refusal is its own number, the others stand above all sets, counts and positions that occur.
 use crate::say;
+use fetches::Fetching;
+use games::Played;
 use groups::Giving;
 use places::PlaceSet;
 use records::Writing;
@@ -38,6 +40,8 @@ pub const GIVEN: u64 = 1000013;
 
 pub const LISTED: u64 = 1000014;
 
+pub const SETTLED: u64 = 1000015;
+
 // A place found by its second serial is this and the place.
 pub const SECOND: u64 = 1001000;
 
@@ -58,6 +62,7 @@ pub fn write(x: u64) {
         1000012 => say::text(b"places from 64 on"),
         1000013 => say::text(b"given"),
         1000014 => say::text(b"listed"),
+        1000015 => say::text(b"settled"),
         1001000..=1001127 => {
             say::text(b"second of place ");
             say::number(std::num::wrapping_sub_u64(x, SECOND));
@@ -127,6 +132,30 @@ pub fn giving(got: Giving) -> u64 {
     match got {
         Giving::Given => GIVEN,
         Giving::Refused(fault) => fault as u64,
+    }
+}
+
+// How many fetches are told.
+pub fn fetching(got: Fetching) -> u64 {
+    match got {
+        Fetching::Settled => SETTLED,
+        Fetching::Needs(fetches, _) => fetches as u64,
+    }
+}
+
+// The place that is told.
+pub fn next(got: Fetching) -> u64 {
+    match got {
+        Fetching::Settled => NOTHING,
+        Fetching::Needs(_, place) => place.0 as u64,
+    }
+}
+
+// How many fetches a game lasts: at most four, so that they are told from refusals.
+pub fn played(got: Played) -> u64 {
+    match got {
+        Played::Fetches(fetches) => fetches as u64,
+        Played::Refused(fault) => fault as u64,
     }
 }
 

@@ -9,6 +9,7 @@ use crate::outcomes::OPEN;
 use crate::parts;
 use crate::stored;
 use crate::tallies::Tally;
+use crate::told;
 use places::Place;
 use recovery::Offered;
 use recovery::Recovery;
@@ -149,7 +150,7 @@ fn settled(c: Case, r: Recovery, t: Tally, expected: bool) -> Tally {
     cases::held(t, c, b"settled", 0, whole, outcomes::truth(got))
 }
 
-// Every answer of a group: the sets, whether the whole is settled, each place, and all in one list.
+// Every answer of a group: the sets, whether the whole is settled, what is to fetch, each place, and all in one list.
 pub fn answers(list: &[u32], c: Case, g: Group) -> Tally {
     let r = g.recovery;
     let pile = g.pile;
@@ -162,6 +163,7 @@ pub fn answers(list: &[u32], c: Case, g: Group) -> Tally {
     let whole = of_0 != OPEN && of_1 != OPEN && of_2 != OPEN && of_3 != OPEN;
     let t = sets(c, r, pile, tally);
     let t = settled(c, r, t, whole);
+    let t = told::beside(c, r, matrices::blocking(list, c.n, pile), t, whole);
     let t = ask(c, r, t, 0, of_0);
     let t = ask(c, r, t, 1, of_1);
     let t = ask(c, r, t, 2, of_2);

@@ -260,3 +260,21 @@ pub fn unmourned(g: Run, low: u64, high: u64, count: u64) -> Run {
     let t = held(g, b"count", 0, 0, count, got as u64);
     after(g, t)
 }
+
+// How many fetches are told, and the place.
+pub fn told(g: Run, fetches: u64, next: u64) -> Run {
+    let recovery = g.recovery;
+    let got = recovery::to_fetch(recovery);
+    let t = held(g, b"to fetch", 0, 0, fetches, outcomes::fetching(got));
+    let g = after(g, t);
+    let t = held(g, b"fetch next", 0, 0, next, outcomes::next(got));
+    after(g, t)
+}
+
+// Plays the game out.
+pub fn play(g: Run, expected: u64) -> Run {
+    let recovery = g.recovery;
+    let got = games::play(recovery);
+    let t = held(g, b"play", 0, 0, expected, outcomes::played(got));
+    after(g, t)
+}
