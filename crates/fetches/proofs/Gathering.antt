@@ -7,7 +7,7 @@ use Prim.Native.Nat.{ℕ, _<_, _≤_}
 use native.Mathlib.Omega.{arith}
 use lib.Dec.{eqb, ltb}
 use borrow.Author.Tests.{eqb-true, ltb-true}
-use Rattle.places.specs.Sets.{Places, nothing, below, only, union, intersection, difference, without, any, subset, count, lowest}
+use Rattle.places.specs.Sets.{Places, nothing, below, only, union, intersection, difference, without, subset, count, lowest}
 use Rattle.places.specs.PlaceSets.{has, found}
 use Rattle.places.specs.declared.PlaceSet.{PlaceSet}
 use Rattle.places.proofs.Booleans.{clash, is-false, both-ways, and-intro, and-left, and-right, or-cases, or-left, or-right, minus-elim, minus-intro}

@@ -1,11 +1,11 @@
 -- The blocking places: with the right sets kept they are the rule's, the rule's are those that may have heard an unmourned place, and
 -- where there is none the whole is settled. Assumes nothing.
 use mathlib.Core.Path.{_≡_, refl, sym, ap, _∙_, fun-ext}
-use mathlib.Core.Bool.{Bool, true, false, not, cond, _&&_}
+use mathlib.Core.Bool.{Bool, true, false, not, _&&_}
 use mathlib.Core.Logic.{_↔_}
 use Prim.Native.Nat.{ℕ, _<_}
 use lib.Dec.{ltb}
-use borrow.Author.Tests.{lt-ltb, ltb-true}
+use borrow.Author.Tests.{lt-ltb}
 use Rattle.places.specs.Sets.{below, difference, any}
 use Rattle.places.proofs.Booleans.{clash, is-false, both-ways, and-intro, and-left, and-right, minus-elim, minus-intro}
 use Rattle.places.proofs.Tests.{any-elim, any-intro}

@@ -1,15 +1,13 @@
 -- What more records change: those who block then blocked before, and whoever is back does not; an empty record, which is never refused,
 -- takes just its place off them. Assumes nothing.
-use mathlib.Core.Path.{_≡_, refl, sym, ap, ap₂, _∙_, fun-ext, subst}
+use mathlib.Core.Path.{_≡_, refl, sym, ap, ap₂, _∙_, fun-ext}
 use mathlib.Core.Bool.{Bool, true, false, not, cond, _&&_, _||_, or-false}
-use mathlib.Core.Logic.{_⊎_, inl, inr}
 use Prim.Native.Nat.{ℕ, _<_}
 use lib.Dec.{eqb}
 use borrow.Author.Tests.{eqb-true, ne-eqb}
 use Rattle.places.specs.Sets.{nothing, below, only, union, difference, with, without}
-use Rattle.places.proofs.Booleans.{clash, is-false, both-ways, or-right, minus-elim, minus-intro, eqb-self}
+use Rattle.places.proofs.Booleans.{clash, is-false, both-ways, minus-elim, minus-intro}
 use Rattle.histories.specs.declared.Kind.{Kind}
-use Rattle.histories.specs.declared.Kind.the-variants.{Full}
 use Rattle.histories.specs.Histories.{Row, History, Before, heard, through, Accepted, lay, Fits}
 use Rattle.histories.specs.Rule.{recorded, mourned, reach, before, isFull, beforeFull, blockers}
 use Rattle.histories.proofs.Exact.{recorded-returned, recorded-fits}

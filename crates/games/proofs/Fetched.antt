@@ -1,29 +1,26 @@
 -- Document 02, [6], proved: the number of fetches that is told is enough, whatever is handed over, and no smaller one is. Assumes nothing.
-use mathlib.Core.Path.{_≡_, refl, sym, ap, ap₂, _∙_, subst}
-use mathlib.Core.Bool.{Bool, true, false, not, cond}
+use mathlib.Core.Path.{_≡_, refl, sym, ap, _∙_, subst}
+use mathlib.Core.Bool.{true, false, not}
 use mathlib.Core.Logic.{_⊎_, inl, inr}
-use mathlib.Core.List.{List, [], _∷_}
+use mathlib.Core.List.{List, []}
 use Prim.Native.Nat.{ℕ, zero, suc, _<_, _≤_}
 use native.Mathlib.Omega.{arith}
 use lib.ListN.{length}
 use lib.Dec.{eqb}
 use borrow.Author.Tests.{ne-eqb}
 use Rattle.places.specs.Sets.{nothing, without, any, count, lowest}
-use Rattle.places.proofs.Booleans.{split, clash, is-false, is-true, both-ways, minus-elim, minus-intro}
+use Rattle.places.proofs.Booleans.{split, clash, both-ways, minus-elim, minus-intro}
 use Rattle.places.proofs.Tests.{any-elim, any-intro, any-none, lowest-below, lowest-member}
 use Rattle.places.proofs.Counting.{count-same, count-nothing, count-subset, count-without, count-some}
 use Rattle.histories.specs.declared.Kind.{Kind}
 use Rattle.histories.specs.declared.Kind.the-variants.{Full}
 use Rattle.histories.specs.Histories.{Row, Accepted, lay}
-use Rattle.histories.specs.Rule.{recorded}
 use Rattle.histories.proofs.Fewer.{Within, within-trans}
 use Rattle.fetches.specs.Fetches.{blocking, told}
-use Rattle.fetches.specs.declared.Fetching.{Fetching}
 use Rattle.fetches.specs.declared.Fetching.the-variants.{Settled, Needs}
 use Rattle.fetches.proofs.Laws.{settled-told}
 use Rattle.fetches.proofs.Gathering.{blocking-absent}
 use Rattle.fetches.proofs.Records.{fewer-block, back-blocks-none, empty-fits, empty-takes-off}
-use Rattle.rosters.specs.Seconds.{countsAs}
 use Rattle.records.specs.Layout.{got, Stored, lone, layout}
 use Rattle.records.proofs.Layouts.{IsStored}
 use Rattle.records.proofs.Trips.{layout-lone}
@@ -32,11 +29,11 @@ use Rattle.replies.specs.declared.Reply.the-variants as O
 use Rattle.recovery.specs.declared.Recovery.{Recovery}
 use Rattle.recovery.specs.Contracts.{sizeOf, rosterOf, secondsOf, aliasOf, acceptedOf, offered, settledOf, blockingOf, fetchingOf}
 use Rattle.recovery.specs.Demand as D
-use Rattle.recovery.specs.Demand.{Free, Call, offer, Ledger, says, OfGroup, Dictates, takes}
+use Rattle.recovery.specs.Demand.{Free, Call, offer, Ledger, says, OfGroup, takes}
 use Rattle.recovery.specs.Run.{offerSays, outcome, ledgerOf, left, reached}
 use Rattle.recovery.specs.Run as run
-use Rattle.recovery.proofs.Keeps.{returned-on, kept-blocking}
-use Rattle.recovery.proofs.Demand.{Good, is-roster, is-size, is-alias, step, good-next, good-after, good-left}
+use Rattle.recovery.proofs.Keeps.{kept-blocking}
+use Rattle.recovery.proofs.Demand.{Good, is-roster, is-size, is-alias, step, good-after, good-left}
 use Rattle.recovery.proofs.Single.{plain, single, same-record}
 use Rattle.recovery.proofs.Dictated.{within-left}
 use Rattle.recovery.proofs.Later.{offered-good, offered-enters, offered-within}

@@ -3,19 +3,18 @@
 use mathlib.Core.Path.{_≡_, refl, sym, ap, ap₂, _∙_, fun-ext}
 use mathlib.Core.Bool.{Bool, true, false, not, cond, _&&_}
 use mathlib.Core.List.{List, _++_}
-use Prim.Native.Nat.{ℕ, _+_, _-_, _/_, _%_, _^_, _≤_, _<_}
+use Prim.Native.Nat.{ℕ, _+_, _-_, _/_, _^_, _≤_, _<_}
 use native.Mathlib.Omega.{arith}
 use lib.Dec.{ltb}
 use lib.ListN.{length, take, drop, length-append}
 use lib.Seq.{take-append-seam}
-use borrow.Author.Tests.{eq-eqb, ne-eqb, lt-ltb, le-leb, ltb-true, ltb-false}
+use borrow.Author.Tests.{lt-ltb, le-leb, ltb-true, ltb-false}
 use Rattle.places.specs.Sets.{Places, below, difference}
 use Rattle.places.specs.PlaceSets.{bit, has, kept}
 use Rattle.places.specs.declared.PlaceSet.{PlaceSet}
 use Rattle.places.proofs.Laws.{kept-all}
 use Rattle.places.proofs.Digits.{bit-zero, bit-high}
 use Rattle.histories.specs.declared.Kind.{Kind}
-use Rattle.histories.specs.declared.Kind.the-variants.{Full, Short}
 use Rattle.answers.specs.Views.{size, acceptedIn}
 use Rattle.answers.proofs.Views.{size-at-most}
 use Rattle.records.specs.declared.Writing.{Writing}

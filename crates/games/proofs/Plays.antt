@@ -9,7 +9,7 @@ use native.Mathlib.Decide.{decLt}
 use lib.ListN.{length}
 use lib.Dec.{ltb}
 use borrow.Author.Tests.{ltb-true, lt-ltb}
-use Rattle.places.specs.Sets.{nothing, without, any, count, lowest}
+use Rattle.places.specs.Sets.{without, any, count}
 use Rattle.places.specs.PlaceSets.{bit}
 use Rattle.places.proofs.Booleans.{split, clash, is-false, minus-elim, minus-intro}
 use Rattle.places.proofs.Tests.{any-elim, none-any}

@@ -1,7 +1,6 @@
 -- The game of document 02, [6], played out on a recovery: a crew fetches an absent place, the hill hands over a record of it that is not
 -- refused, and so on until the whole is settled. Assumes nothing.
 use mathlib.Core.Bool.{Bool, true, false, cond}
-use mathlib.Core.List.{List}
 use Prim.Native.Nat.{ℕ, zero, suc, _*_, _/_, _%_, _^_, min, max}
 use lib.Dec.{eqb, leb}
 use Rattle.places.specs.Sets.{Places, below, difference, count, lowest}

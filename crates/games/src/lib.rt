@@ -2,7 +2,7 @@
 // refused, and so on until the whole is settled. The definitions that the contracts cite stand in specs/Games.antt.
 ghost use mathlib.Core.Path.{_≡_};
 ghost use mathlib.Core.Bool.{true};
-ghost use Prim.Native.Nat.{_*_, _-_, _^_, _≤_, _<_, min, max};
+ghost use Prim.Native.Nat.{_-_, _≤_, _<_, min, max};
 ghost use Rattle.places.specs.PlaceSets.{has};
 ghost use Rattle.recovery.specs.Contracts.{sizeOf};
 ghost use Rattle.games.specs.Games as games;
@@ -62,7 +62,7 @@ fn kind_numbered(number: u64) -> Kind
     Kind::Short
 }
 
-// Hands over the record of a place with this number: it is written and offered.
+// Hands over the record of a place with this number: it is written, into 39 bytes, which every record of four members fits, and offered.
 fn hand_over(r: Recovery, place: Place, number: u64) -> Offered
     requires { ⌜ sizeOf r ≤ 4 ⌝ }
     requires { ⌜ place .0 < sizeOf r ⌝ }

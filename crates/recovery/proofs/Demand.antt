@@ -45,7 +45,7 @@ use Rattle.fetches.specs.Fetches.{told, blocking}
 use Rattle.fetches.specs.declared.Fetching.the-variants as E
 use Rattle.fetches.proofs.Laws as fetches
 use Rattle.replies.specs.Replies.{sameKind}
-use Rattle.recovery.specs.Contracts.{sizeOf, rosterOf, secondsOf, aliasOf, acceptedOf, holding, fresh, opened, ofGroup, saying, keeping, entered, offered, askedAs, asked, shown, checked, settledOf, blockingOf, fetchingOf, unmournedOf, unmournedAbsentOf, unmournedCountOf, foundIn, withSecond, given, recordOf, writtenOf, listedOf}
+use Rattle.recovery.specs.Contracts.{sizeOf, rosterOf, secondsOf, aliasOf, acceptedOf, holding, fresh, opened, ofGroup, saying, keeping, entered, offered, askedAs, asked, shown, checked, settledOf, fetchingOf, unmournedOf, unmournedAbsentOf, unmournedCountOf, foundIn, withSecond, given, recordOf, writtenOf, listedOf}
 use Rattle.recovery.specs.Demand as D
 use Rattle.recovery.specs.Demand.{Free, Call, offer, ask, show, check, whole, to-fetch, unmourned, unmourned-absent, unmourned-count, find, give, write, list, Ledger, begun, KnownSerial, AreSeconds, says, lent-one, places, number, OfGroup, SameRecord, Holds, MayHear, recordIn, ByteOf, byte-not, byte-last, byte-open, Dictates, faulty, foreign, repeats, differs, takes, none-fits, asked-off, asked-last, asked-not, asked-open, showed-off, showed-decided, showed-short, showed, checked-short, checked-off, checked-fits, checked-not, whole-settled, whole-open, fetched-none, fetched-next, gave-unmourned, gave-absent, gave-count, found-first, found-second, found-none, gave-off, gave-zero, gave-known, gave, wrote-off, wrote-absent, wrote-short, wrote, listed-short, listed-all, Whole, end, then}
 use Rattle.recovery.specs.Run.{offerSays, askedSays, showingSays, checkedSays, fetchingSays, writingSays, foundSays, givingSays, listingSays, shownGives, writtenGives, listedGives, outcome, next, run, ledgerOf, left}

@@ -12,11 +12,10 @@ use borrow.Author.Tests.{eqb-true}
 use Rattle.places.proofs.Booleans.{clash, or-cases, or-right, eqb-self}
 use Rattle.histories.specs.declared.Kind.{Kind}
 use Rattle.histories.specs.declared.Kind.the-variants.{Full}
-use Rattle.histories.specs.Histories.{Row, History, Before, Accepted, lay, Fits, LastInAll, LastInNone, Decided, Disagree}
+use Rattle.histories.specs.Histories.{Row, History, Before, Accepted, lay, Fits, LastInAll, LastInNone, Decided}
 use Rattle.histories.proofs.Fewer.{Within, within-self, within-trans, within-lay, fits-lay}
 use Rattle.histories.proofs.Exact.{all-none, all-open, none-open, decided-open}
-use Rattle.records.specs.Layout.{Parsed, got, Stored}
-use Rattle.records.specs.Layout as L
+use Rattle.records.specs.Layout.{Stored}
 use Rattle.recovery.specs.declared.Recovery.{Recovery}
 use Rattle.recovery.specs.Contracts.{acceptedOf}
 use Rattle.recovery.specs.Demand as D

@@ -10,7 +10,7 @@ use lib.ListN.{length, getD, take, drop, take-append-drop}
 use lib.Seq.{getD-drop, ext-getD}
 use Rattle.places.specs.Sets.{count}
 use Rattle.places.proofs.Booleans.{clash, both-ways}
-use Rattle.histories.specs.Histories.{Row, History, Accepted, lay, Fits, Disagree, Decided}
+use Rattle.histories.specs.Histories.{Row, History, Accepted, lay, Fits}
 use Rattle.histories.proofs.Exact.{none-fitted, all-none, all-open, none-open, decided-open}
 use Rattle.fetches.specs.Fetches.{MayHaveHeard}
 use Rattle.rosters.specs.Rosters.{IsRoster}
