@@ -1,5 +1,5 @@
 // Places of a roster, and sets of the places 0 to 127. Contracts speak of a set by its members (`has`): above
-// this crate only `rows`, `games` and the crates for C, for which a set is bytes, a number or words, look at the two words.
+// this crate only `rows`, `lists`, `games` and the crates for C, for which a set is bytes, a number or words, look at the two words.
 ghost use mathlib.Core.Path.{_≡_};
 ghost use mathlib.Core.Bool.{not};
 ghost use Prim.Native.Nat.{ℕ, _<_};
