@@ -1,8 +1,8 @@
-// Links the proved library: the four archives that `rt staticlib` writes of capi, capi_records, capi_days and capi_fetches, in the folder
-// that GM_LIBRARY names or in target/staticlib. Without them only the commands that need no library are built.
+// Links the proved library: the archives that `rt staticlib` writes of the crates below, in the folder that GM_LIBRARY names or in
+// target/staticlib. Without them only the commands that need no library are built.
 use std::{env, fs, path::PathBuf};
 
-const ARCHIVES: [&str; 4] = ["capi", "capi_records", "capi_days", "capi_fetches"];
+const ARCHIVES: [&str; 6] = ["capi", "capi_answers", "capi_histories", "capi_records", "capi_days", "capi_fetches"];
 
 fn main() {
     let manifest = PathBuf::from(env::var_os("CARGO_MANIFEST_DIR").unwrap());

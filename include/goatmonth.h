@@ -1,9 +1,11 @@
 /*
  * Goatmonth: which controllers of a group stopped last, told from the records that the returned ones stored.
  *
- * The functions are proved code in four static libraries (`rt staticlib NAME` writes target/staticlib/libNAME.a): capi has those of a
- * recovery, capi_records those of stored records by themselves, capi_days those of a day, capi_fetches those that say what a crew has to
- * fetch. They use no heap and no threads, and keep nothing between calls: a recovery, and a day, is a plain struct in the caller's memory,
+ * The functions are proved code in six static libraries (`rt staticlib NAME` writes target/staticlib/libNAME.a): capi opens a recovery and
+ * takes records, capi_answers says how its places stand, capi_histories shows, checks and writes, capi_records has stored records by
+ * themselves, capi_days a day, capi_fetches what a crew has to fetch. Link those whose functions you call.
+ *
+ * They use no heap and no threads, and keep nothing between calls: a recovery, and a day, is a plain struct in the caller's memory,
  * made by opening it and handed to every call. Copy it, store it or compare it as you like; calls on different structs may run at the same
  * time.
  *

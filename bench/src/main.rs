@@ -44,7 +44,7 @@ fn main() {
         listing::ONCE => listing::once(number(1, 0) as usize, number(2, 0) as usize, number(3, 0) as usize),
         #[cfg(not(proved))]
         "differential" | "bench" | "listing" => {
-            eprintln!("built without the library: run rt staticlib for capi, capi_records, capi_days and capi_fetches,");
+            eprintln!("built without the library: run rt staticlib for capi and each crate that begins with capi_,");
             eprintln!("or set GM_LIBRARY, and build again");
             std::process::exit(2);
         }

@@ -6,12 +6,12 @@ use Prim.Native.Nat.{ℕ, _<_}
 use native.Mathlib.Omega.{arith}
 use lib.Dec.{ltb, eqb}
 use borrow.Author.Tests.{ltb-true, lt-ltb, eqb-true}
-use Rattle.places.specs.Sets.{Places, nothing, below, only, union, intersection, difference, without, any}
-use Rattle.places.specs.PlaceSets.{has}
-use Rattle.places.specs.declared.PlaceSet.{PlaceSet}
-use Rattle.places.proofs.Booleans.{clash, is-false, is-true, both-ways, and-left, not-true, minus-elim, minus-intro}
-use Rattle.places.proofs.Tests.{any-elim, any-intro, any-none, none-any}
-use Rattle.places.proofs.Laws.{has-below}
+use Rattle.sets.specs.Sets.{Places, nothing, below, only, union, intersection, difference, without, any}
+use Rattle.sets.specs.PlaceSets.{has}
+use Rattle.sets.specs.declared.PlaceSet.{PlaceSet}
+use Rattle.sets.proofs.Booleans.{clash, is-false, is-true, both-ways, and-left, not-true, minus-elim, minus-intro}
+use Rattle.sets.proofs.Tests.{any-elim, any-intro, any-none, none-any}
+use Rattle.sets.proofs.Laws.{has-below}
 use Rattle.histories.specs.Histories.{Row, Accepted}
 use Rattle.histories.specs.Rule.{recorded, reach, before, fullBack, answerWith, openAnswer, noneOpen}
 use Rattle.histories.specs.Kept.{ruledOutBy, blockersBy, answerBy, settledBy}

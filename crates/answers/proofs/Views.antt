@@ -6,10 +6,10 @@ use Prim.Native.Nat.{ℕ, _<_, _≤_}
 use native.Mathlib.Omega.{arith}
 use lib.Dec.{ltb, leb}
 use borrow.Author.Tests.{ltb-true, lt-ltb, leb-true, leb-false, le-leb, lt-leb}
-use Rattle.places.specs.Sets.{Places, nothing, below, intersection}
-use Rattle.places.specs.PlaceSets.{has, kept}
-use Rattle.places.specs.declared.PlaceSet.{PlaceSet}
-use Rattle.places.proofs.Booleans.{and-intro, and-left, and-right}
+use Rattle.sets.specs.Sets.{Places, nothing, below, intersection}
+use Rattle.sets.specs.PlaceSets.{has, kept}
+use Rattle.sets.specs.declared.PlaceSet.{PlaceSet}
+use Rattle.sets.proofs.Booleans.{and-intro, and-left, and-right}
 use Rattle.rows.specs.Rows.{rowsOf}
 use Rattle.histories.specs.declared.Kind.the-variants.{Full, Short}
 use Rattle.histories.specs.Histories.{Accepted}

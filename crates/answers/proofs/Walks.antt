@@ -6,12 +6,12 @@ use mathlib.Core.List.{List}
 use Prim.Native.Nat.{ℕ, _<_}
 use lib.Dec.{eqb}
 use borrow.Author.Tests.{eqb-true}
-use Rattle.places.specs.Sets.{Places, nothing, below, union, intersection, difference, without, any, subset}
-use Rattle.places.specs.PlaceSets.{has}
-use Rattle.places.specs.declared.PlaceSet.{PlaceSet}
-use Rattle.places.proofs.Booleans.{clash, is-false, is-true, both-ways, and-intro, and-left, and-right, or-cases, or-left, or-right, minus-elim, minus-intro}
-use Rattle.places.proofs.Tests.{any-elim, any-intro, subset-elim, subset-intro}
-use Rattle.places.proofs.Laws.{has-below}
+use Rattle.sets.specs.Sets.{Places, nothing, below, union, intersection, difference, without, any, subset}
+use Rattle.sets.specs.PlaceSets.{has}
+use Rattle.sets.specs.declared.PlaceSet.{PlaceSet}
+use Rattle.sets.proofs.Booleans.{clash, is-false, is-true, both-ways, and-intro, and-left, and-right, or-cases, or-left, or-right, minus-elim, minus-intro}
+use Rattle.sets.proofs.Tests.{any-elim, any-intro, subset-elim, subset-intro}
+use Rattle.sets.proofs.Laws.{has-below}
 use Rattle.rows.specs.Rows.{rowsOf}
 use Rattle.histories.specs.Histories.{Row, History, Before, heard, through, Accepted}
 use Rattle.histories.specs.Rule.{recorded, reach}

@@ -4,7 +4,7 @@ use mathlib.Core.Bool.{Bool, false, cond, _&&_, _||_}
 use mathlib.Core.List.{List}
 use Prim.Native.Nat.{ℕ}
 use lib.Dec.{leb}
-use Rattle.places.specs.Sets.{Places, below, intersection, any, subset}
+use Rattle.sets.specs.Sets.{Places, below, intersection, any, subset}
 use Rattle.rows.specs.Rows.{rowsOf}
 use Rattle.histories.specs.declared.Kind.{Kind}
 use Rattle.histories.specs.declared.Kind.the-variants.{Full, Short}

@@ -4,29 +4,29 @@ use mathlib.Core.List.{List, [], _∷_}
 use Prim.Native.Nat.{ℕ}
 use native.Mathlib.Omega.{arith}
 use lib.ListN.{length, getD}
-use Rattle.places.specs.Sets.{union, with}
-use Rattle.places.specs.PlaceSets.{has, kept, Words, packed}
-use Rattle.places.specs.declared.PlaceSet.{PlaceSet}
-use Rattle.places.proofs.Laws.{packed-is, kept-has}
+use Rattle.sets.specs.Sets.{union, with}
+use Rattle.sets.specs.PlaceSets.{has, kept, Words, packed}
+use Rattle.sets.specs.declared.PlaceSet.{PlaceSet}
+use Rattle.sets.proofs.Laws.{packed-is, kept-has}
 use Rattle.histories.specs.declared.Kind.{Kind}
 use Rattle.histories.specs.declared.Kind.the-variants.{Full, Short}
 use Rattle.histories.specs.Histories.{Row}
 use Rattle.rows.specs.Rows.{withRow}
-use Rattle.records.specs.declared.Record.{Record}
-use Rattle.records.specs.declared.Reading.the-variants as R
-use Rattle.records.specs.Records.{readingLone}
-use Rattle.groups.specs.Groups.{aliasIn}
-use Rattle.replies.specs.declared.Reply.{Reply}
-use Rattle.replies.specs.declared.Reply.the-variants as O
-use Rattle.replies.specs.Replies.{judgement}
-use Rattle.recovery.specs.declared.Recovery.{Recovery}
-use Rattle.recovery.specs.declared.Offered.{Offered}
-use Rattle.recovery.specs.Contracts.{saying, keepingFull, keepingRow, keeping, answered, offered}
-use Rattle.recovery.proofs.Offers.{offered-read, offered-unread}
-use Rattle.capi.specs.declared.Head.{Head}
-use Rattle.words.specs.Words.{setAt}
-use Rattle.capi.specs.Boundary.{recoveryIn, headWords, headOf, replyCode, offeredHeld}
-use Rattle.capi.proofs.Calls.{Says, held}
+use Rattle.layouts.specs.declared.Record.{Record}
+use Rattle.layouts.specs.declared.Reading.the-variants as R
+use Rattle.layouts.specs.Records.{readingLone}
+use Rattle.answers.specs.Groups.{aliasIn}
+use Rattle.answers.specs.declared.Reply.{Reply}
+use Rattle.answers.specs.declared.Reply.the-variants as O
+use Rattle.answers.specs.Replies.{judgement}
+use Rattle.calls.specs.declared.Recovery.{Recovery}
+use Rattle.calls.specs.declared.Offered.{Offered}
+use Rattle.calls.specs.Contracts.{saying, keepingFull, keepingRow, keeping, answered, offered}
+use Rattle.calls.proofs.Offers.{offered-read, offered-unread}
+use Rattle.boundary.specs.declared.Head.{Head}
+use Rattle.boundary.specs.Words.{setAt}
+use Rattle.boundary.specs.Recoveries.{recoveryIn, headWords, headOf, replyCode, offeredHeld}
+use Rattle.boundary.proofs.Calls.{Says, held}
 
 -- the words of the recovery in memory are those in memory
 pub same-head : (head : List ℕ) → length head ≡ 9 → (serials seconds rows : List ℕ) → head ≡ headOf (recoveryIn head serials seconds rows)

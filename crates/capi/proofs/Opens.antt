@@ -2,10 +2,10 @@
 use mathlib.Core.Path.{_≡_, refl}
 use mathlib.Core.List.{List}
 use Prim.Native.Nat.{ℕ}
-use Rattle.recovery.specs.declared.Opened.{Opened}
-use Rattle.recovery.specs.declared.Opening.the-variants as G
-use Rattle.recovery.specs.Contracts.{opened}
-use Rattle.capi.specs.Boundary.{headWords, headOf, openedAs, openedHeld}
+use Rattle.calls.specs.declared.Opened.{Opened}
+use Rattle.calls.specs.declared.Opening.the-variants as G
+use Rattle.calls.specs.Contracts.{opened}
+use Rattle.boundary.specs.Recoveries.{headWords, headOf, openedAs, openedHeld}
 
 module _ (s head serials seconds rows : List ℕ) where
   -- the number, the words, the serials, first and second, and the rows are those of opening

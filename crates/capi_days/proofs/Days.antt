@@ -7,16 +7,16 @@ use native.Mathlib.Omega.{arith}
 use lib.ListN.{length, getD}
 use borrow.Author.Tests.{eq-eqb, ne-eqb}
 use Rattle.histories.specs.declared.Kind.the-variants.{Full, Short}
-use Rattle.records.specs.declared.Writing.{Writing}
+use Rattle.layouts.specs.declared.Writing.{Writing}
 use Rattle.executions.specs.declared.Day.{Day}
 use Rattle.executions.specs.declared.Event.{Event}
 use Rattle.executions.specs.declared.Happened.{Happened}
 use Rattle.executions.specs.Contracts.{happened, writtenOf}
-use Rattle.capi_days.specs.declared.DayHead.{DayHead}
-use Rattle.words.specs.declared.End.{End}
-use Rattle.words.specs.Words.{setAt, endOf}
-use Rattle.capi_days.specs.Boundary.{kindIn, stoppedIn, dayIn, withStopped, happenedHeld}
-use Rattle.words.proofs.Laws.{Ends, ends}
+use Rattle.boundary.specs.declared.DayHead.{DayHead}
+use Rattle.boundary.specs.declared.End.{End}
+use Rattle.boundary.specs.Words.{setAt, endOf}
+use Rattle.boundary.specs.Days.{kindIn, stoppedIn, dayIn, withStopped, happenedHeld}
+use Rattle.boundary.proofs.Words.{Ends, ends}
 
 -- ---- the four words
 

@@ -5,7 +5,7 @@ use Prim.Native.Nat.{ℕ}
 use Rattle.executions.specs.declared.Begun.{Begun}
 use Rattle.executions.specs.declared.Opening.the-variants as B
 use Rattle.executions.specs.Contracts.{begun}
-use Rattle.capi_days.specs.Boundary.{dayHeadOf, begunAs, begunHeld}
+use Rattle.boundary.specs.Days.{dayHeadOf, begunAs, begunHeld}
 
 module _ (kind : ℕ) (s head serials rows : List ℕ) where
   -- the number, the words, the serials and the rows are those of opening

@@ -15,11 +15,11 @@ use Rattle.executions.specs.declared.Happened.{Happened}
 use Rattle.executions.specs.declared.Played.{Played}
 use Rattle.executions.specs.Executions.{fault}
 use Rattle.executions.specs.Contracts.{sizeOf, executionOf, stopping, hearing, dayAfter, happened, counted, stepped, playedFrom, played}
-use Rattle.capi_days.specs.declared.DayNow.{DayNow}
-use Rattle.capi_days.specs.declared.EventNow.{EventNow}
-use Rattle.capi_days.specs.declared.PlayedNow.{PlayedNow}
-use Rattle.words.specs.Words.{setAt}
-use Rattle.capi_days.specs.Boundary.{kindIn, stoppedIn, dayIn, eventOf, withStopped, dayOf, dayNow, eventIn, eventsIn, playedAs, playedNow, playedOf, steppedNow}
+use Rattle.boundary.specs.declared.DayNow.{DayNow}
+use Rattle.boundary.specs.declared.EventNow.{EventNow}
+use Rattle.boundary.specs.declared.PlayedNow.{PlayedNow}
+use Rattle.boundary.specs.Words.{setAt}
+use Rattle.boundary.specs.Days.{kindIn, stoppedIn, dayIn, eventOf, withStopped, dayOf, dayNow, eventIn, eventsIn, playedAs, playedNow, playedOf, steppedNow}
 use Rattle.capi_days.proofs.Days.{same-head}
 
 -- ---- a kind as a byte

@@ -1,54 +1,24 @@
-// A day of stops as C plays it: four words (the kind, the count, two words of the places that have stopped), 128 serials and 2,048 bytes of
-// rows in the caller's memory. Nothing is kept between calls, and every input has an answer: include/goatmonth.h says what a caller
-// promises of its pointers. specs/Boundary.antt has the numbers of the answers.
+// A day of stops as C plays it: four words, 128 serials and 2,048 bytes of rows in the caller's memory. Nothing is kept between calls, and every input has an answer: include/goatmonth.h says what a caller
+// promises of its pointers. What the words and numbers mean stands in `boundary`.
 ghost use mathlib.Core.Path.{_≡_};
 ghost use mathlib.Core.Bool.{cond};
 ghost use mathlib.Core.List.{[], _∷_};
 ghost use lib.ListN.{length, getD};
 ghost use lib.Dec.{ltb};
 ghost use Rattle.executions.specs.Contracts as days;
-ghost use Rattle.words.specs.Words.{endOf};
-ghost use Rattle.capi_days.specs.Boundary.{kindIn, stoppedIn, dayIn, eventOf, dayHeadOf, withStopped, begunHeld, happenedHeld, dayOf, dayNow, playedNow, steppedNow};
+ghost use Rattle.boundary.specs.Words.{endOf};
+ghost use Rattle.boundary.specs.Days.{kindIn, stoppedIn, dayIn, eventOf, dayHeadOf, withStopped, begunHeld, happenedHeld, dayOf, dayNow, playedNow, steppedNow};
+use boundary::DayHead;
+use boundary::DayNow;
+use boundary::End;
+use boundary::EventNow;
+use boundary::PlayedNow;
 use executions::Day;
 use executions::Event;
 use executions::Played;
 use histories::Kind;
-use places::Place;
-use places::PlaceSet;
-use words::End;
-
-// A day by value: its four words, its serials and its rows.
-#[repr(C)]
-pub struct DayNow {
-    pub head: [u64; 4],
-    pub serials: [u32; 128],
-    pub rows: [u8; 2048],
-}
-
-// An event: of kind 1 `place` stops, of kind 2 `place` hears that `other` has stopped.
-#[repr(C)]
-pub struct EventNow {
-    pub kind: u64,
-    pub place: u64,
-    pub other: u64,
-}
-
-// What a list of events gives: how many were played, the refusal that ended the play, or 0, and the day after those played.
-#[repr(C)]
-pub struct PlayedNow {
-    pub count: u64,
-    pub refusal: u64,
-    pub day: DayNow,
-}
-
-// ---- the four words of a day
-
-// What they say: the kind, the count, and the places that have stopped.
-struct DayHead {
-    kind: Kind,
-    count: usize,
-    stopped: PlaceSet,
-}
+use sets::Place;
+use sets::PlaceSet;
 
 fn kind_of(word: u64) -> Kind
     ensures { λ k. ⌜ k ≡ kindIn (word ∷ []) ⌝ }
@@ -92,8 +62,6 @@ fn write_stopped(head: &mut [u64; 4], stopped: PlaceSet)
     *head = words;
 }
 
-// ---- a day
-
 // Opens a day: 2, 3, 4, 5, or 0. Where it is refused, nothing is written.
 #[no_mangle]
 pub extern "C" fn gm_day_open(
@@ -108,7 +76,7 @@ pub extern "C" fn gm_day_open(
     ensures { λ r. ⌜ now (serials .exit) ≡ begunHeld kind (now (list .entry)) (now (head .entry)) (now (serials .entry)) (now (rows .entry)) .serials ⌝ }
     ensures { λ r. ⌜ now (rows .exit) ≡ begunHeld kind (now (list .entry)) (now (head .entry)) (now (serials .entry)) (now (rows .entry)) .rows ⌝ }
 {
-    let begun = executions::open(kind, list);
+    let begun = day_records::open(kind, list);
     let answer = begun.answer;
     let d = begun.day;
     let kind = d.kind;
@@ -164,7 +132,7 @@ pub extern "C" fn gm_day_event(
         place: Place(place),
         other: Place(other),
     };
-    let happened = executions::happen(before, event);
+    let happened = day_events::happen(before, event);
     let after = happened.day;
     let stopped = after.stopped;
     let heard = after.rows;
@@ -187,11 +155,9 @@ pub extern "C" fn gm_day_write(
     ensures { λ r. ⌜ now (out .exit) ≡ days.writtenOf (dayIn (now (head .entry)) (now (serials .entry)) (now (rows .entry))) place (now (out .entry)) at .buffer ⌝ }
 {
     let day = day_in(head, serials, rows);
-    let answer = executions::write(day, Place(place), out, at);
+    let answer = day_records::write(day, Place(place), out, at);
     words::end_of(answer)
 }
-
-// ---- a list of events
 
 // A kind that no byte holds is as unknown as 0.
 fn kind_byte(kind: u64) -> u8
@@ -247,7 +213,7 @@ fn day_step(p: PlayedNow, e: EventNow) -> PlayedNow
         refusal: 0,
         day,
     };
-    let played = executions::step(before, event);
+    let played = day_plays::step(before, event);
     let after = played.day;
     let day = day_now(d, after);
     PlayedNow {

@@ -3,20 +3,20 @@ use mathlib.Core.Path.{_≡_, ap, _∙_}
 use mathlib.Core.List.{List}
 use Prim.Native.Nat.{ℕ}
 use lib.ListN.{getD}
-use Rattle.places.specs.PlaceSets.{has}
-use Rattle.places.specs.declared.PlaceSet.{PlaceSet}
+use Rattle.sets.specs.PlaceSets.{has}
+use Rattle.sets.specs.declared.PlaceSet.{PlaceSet}
 use Rattle.answers.specs.Views.{size, acceptedIn}
-use Rattle.fetches.specs.declared.Fetching.{Fetching}
-use Rattle.fetches.specs.Fetches.{fetchingBy}
+use Rattle.answers.specs.declared.Fetching.{Fetching}
+use Rattle.answers.specs.Fetches.{fetchingBy}
 use Rattle.games.specs.declared.Played.{Played}
 use Rattle.games.specs.Games.{played}
-use Rattle.recovery.specs.declared.Recovery.{Recovery}
-use Rattle.recovery.specs.Contracts.{sizeOf, acceptedOf, blockingOf, fetchingOf}
-use Rattle.words.specs.Words.{setAt}
-use Rattle.capi.specs.Boundary.{recoveryIn}
-use Rattle.capi_fetches.specs.declared.FetchNow.{FetchNow}
-use Rattle.capi_fetches.specs.declared.GameNow.{GameNow}
-use Rattle.capi_fetches.specs.Boundary.{fetchOf, gameOf}
+use Rattle.calls.specs.declared.Recovery.{Recovery}
+use Rattle.calls.specs.Contracts.{sizeOf, acceptedOf, blockingOf, fetchingOf}
+use Rattle.boundary.specs.Words.{setAt}
+use Rattle.boundary.specs.Recoveries.{recoveryIn}
+use Rattle.boundary.specs.declared.FetchNow.{FetchNow}
+use Rattle.boundary.specs.declared.GameNow.{GameNow}
+use Rattle.boundary.specs.Fetches.{fetchOf, gameOf}
 
 -- the recovery of some parts
 abbrev pub partsOf : ℕ → PlaceSet → PlaceSet → PlaceSet → PlaceSet → List ℕ → List ℕ → List ℕ → Recovery

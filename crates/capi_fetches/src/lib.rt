@@ -1,34 +1,19 @@
-// What a crew has to fetch, as C asks it of a recovery: the nine words, 128 serials, 128 second serials and 2,048 bytes of rows of crate
-// capi, in the caller's memory. Nothing is kept between calls, and every input has an answer: include/goatmonth.h says what a caller
-// promises of its pointers. specs/Boundary.antt has the numbers of the answers.
+// What a crew has to fetch, as C asks it of a recovery. Nothing is kept between calls, and every input has an answer: include/goatmonth.h says what a caller
+// promises of its pointers. What the words and numbers mean stands in `boundary`.
 ghost use mathlib.Core.Path.{_≡_};
 ghost use mathlib.Core.List.{List};
 ghost use Prim.Native.Nat.{ℕ, _≤_};
-ghost use Rattle.recovery.specs.Contracts.{fetchingOf};
+ghost use Rattle.calls.specs.Contracts.{fetchingOf};
 ghost use Rattle.games.specs.Games.{played};
-ghost use Rattle.words.specs.Words.{setAt};
-ghost use Rattle.capi.specs.Boundary.{recoveryIn};
-ghost use Rattle.capi_fetches.specs.Boundary.{fetchOf, gameOf};
-use fetches::Fetching;
+ghost use Rattle.boundary.specs.Words.{setAt};
+ghost use Rattle.boundary.specs.Recoveries.{recoveryIn};
+ghost use Rattle.boundary.specs.Fetches.{fetchOf, gameOf};
+use answers::Fetching;
+use boundary::FetchNow;
+use boundary::GameNow;
+use calls::Recovery;
 use games::Played;
-use places::PlaceSet;
-use recovery::Recovery;
-
-// How many fetches surely suffice, and the place to fetch next; 0 and 128, which is no place, where nothing is open.
-#[repr(C)]
-pub struct FetchNow {
-    pub number: u64,
-    pub place: u64,
-}
-
-// What a game played out gives: 0 and how many fetches it lasts, or a refusal and 0.
-#[repr(C)]
-pub struct GameNow {
-    pub refusal: u64,
-    pub fetches: u64,
-}
-
-// ---- the nine words of a recovery
+use sets::PlaceSet;
 
 // The set whose two words stand from a position on.
 fn set_at(head: &[u64; 9], at: usize) -> PlaceSet
@@ -69,8 +54,6 @@ fn recovery_in(
     }
 }
 
-// ---- answers as numbers
-
 fn fetch_now(told: Fetching) -> FetchNow
     ensures { λ r. ⌜ r ≡ fetchOf told ⌝ }
 {
@@ -101,8 +84,6 @@ fn game_now(game: Played) -> GameNow
     }
 }
 
-// ---- the two calls
-
 // How many fetches surely suffice, and the place to fetch next. Whatever the serials are.
 #[no_mangle]
 pub extern "C" fn gm_to_fetch(head: &[u64; 9], rows: &[u8; 2048]) -> FetchNow
@@ -128,6 +109,6 @@ pub extern "C" fn gm_play(
     ensures { λ r. ⌜ r ≡ gameOf (played (recoveryIn (now (head .entry)) (now (serials .entry)) (now (seconds .entry)) (now (rows .entry)))) ⌝ }
 {
     let r = recovery_in(head, serials, seconds, rows);
-    let game = games::play(r);
+    let game = minimax::play(r);
     game_now(game)
 }

@@ -5,16 +5,16 @@ use Prim.Native.Nat.{ℕ, _*_, _/_}
 use native.Mathlib.Omega.{arith}
 use lib.ListN.{length, getD, take, drop}
 use Rattle.histories.specs.declared.Kind.{Kind}
-use Rattle.rosters.specs.declared.Serial.{Serial}
-use Rattle.records.specs.Layout.{kindByte}
-use Rattle.records.specs.declared.Record.{Record}
-use Rattle.records.specs.declared.Reading.{Reading}
-use Rattle.records.specs.declared.Reading.the-variants as R
-use Rattle.records.specs.declared.Sight.{Sight}
-use Rattle.records.specs.declared.Sight.the-variants as T
-use Rattle.records.specs.Desk.{Shown, rosterPart, shownToDesk, SameToRoster}
-use Rattle.records.proofs.Desks.{nothing-behind, desk-faults, part-counted, part-long}
-use Rattle.capi_records.specs.Boundary.{recordWords, readCode, readWords, sightCode, sightWords, shownWords, partTold}
+use Rattle.serials.specs.declared.Serial.{Serial}
+use Rattle.layouts.specs.Layout.{kindByte}
+use Rattle.layouts.specs.declared.Record.{Record}
+use Rattle.layouts.specs.declared.Reading.{Reading}
+use Rattle.layouts.specs.declared.Reading.the-variants as R
+use Rattle.layouts.specs.declared.Sight.{Sight}
+use Rattle.layouts.specs.declared.Sight.the-variants as T
+use Rattle.layouts.specs.Desk.{Shown, rosterPart, shownToDesk, SameToRoster}
+use Rattle.layouts.proofs.Desks.{nothing-behind, desk-faults, part-counted, part-long}
+use Rattle.boundary.specs.Records.{recordWords, readCode, readWords, sightCode, sightWords, shownWords, partTold}
 
 -- the number of an answer, and the words after it
 abbrev pub Told : Reading → List ℕ → ℕ → List ℕ → Type 0

@@ -3,15 +3,15 @@ use mathlib.Core.Path.{_≡_, refl}
 use mathlib.Core.List.{List}
 use Prim.Native.Nat.{ℕ}
 use borrow.Author.Tests.{ne-eqb}
-use Rattle.places.specs.Sets.{Places}
+use Rattle.sets.specs.Sets.{Places}
 use Rattle.histories.specs.declared.Kind.the-variants.{Full, Short}
-use Rattle.records.specs.Layout.{knownKind, kindOf}
-use Rattle.records.specs.declared.Writing.{Writing}
-use Rattle.records.specs.Records.{unwritten, written}
-use Rattle.words.specs.declared.End.{End}
-use Rattle.words.specs.Words.{endOf}
-use Rattle.words.proofs.Laws.{Ends, ends}
-use Rattle.capi_records.specs.Boundary.{writtenParts}
+use Rattle.layouts.specs.Layout.{knownKind, kindOf}
+use Rattle.layouts.specs.declared.Writing.{Writing}
+use Rattle.layouts.specs.Records.{unwritten, written}
+use Rattle.boundary.specs.declared.End.{End}
+use Rattle.boundary.specs.Words.{endOf}
+use Rattle.boundary.proofs.Words.{Ends, ends}
+use Rattle.boundary.specs.Records.{writtenParts}
 
 module _ (kind own : ℕ) (roster : List ℕ) (M : Places) (out : List ℕ) (at : ℕ) where
   module _ (a : Writing) (e : End) (after : List ℕ) (is : e ≡ endOf a) where

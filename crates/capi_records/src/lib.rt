@@ -1,19 +1,19 @@
-// Stored records as C reads and writes them: no recovery and no day is needed. Nothing is kept between calls, and every input has an answer:
-// include/goatmonth.h says what a caller promises of its pointers. specs/Boundary.antt has the numbers of the answers.
+// Stored records as C reads and writes them: no recovery and no day is needed. Nothing is kept between calls, and every input has an answer: include/goatmonth.h says what a caller
+// promises of its pointers. What the words and numbers mean stands in `boundary`.
 ghost use mathlib.Core.Path.{_≡_};
 ghost use mathlib.Core.List.{[]};
-ghost use Rattle.places.specs.PlaceSets.{has};
-ghost use Rattle.rosters.specs.Seconds.{countsAs};
-ghost use Rattle.records.specs.Records.{reading, readingLone, rosterIs, copiable, copied};
-ghost use Rattle.records.specs.Desk.{shownToDesk};
-ghost use Rattle.words.specs.Words.{setAt, yesCode, endOf};
-ghost use Rattle.capi_records.specs.Boundary.{readCode, readWords, sightCode, shownWords, partTold, writtenParts};
+ghost use Rattle.sets.specs.PlaceSets.{has};
+ghost use Rattle.serials.specs.Seconds.{countsAs};
+ghost use Rattle.layouts.specs.Records.{reading, readingLone, rosterIs, copiable, copied};
+ghost use Rattle.layouts.specs.Desk.{shownToDesk};
+ghost use Rattle.boundary.specs.Words.{setAt, yesCode, endOf};
+ghost use Rattle.boundary.specs.Records.{readCode, readWords, sightCode, shownWords, partTold, writtenParts};
+use boundary::End;
 use histories::Kind;
-use places::Place;
-use places::PlaceSet;
-use records::Reading;
-use records::Sight;
-use words::End;
+use layouts::Reading;
+use layouts::Sight;
+use sets::Place;
+use sets::PlaceSet;
 
 // The seven words of a record that was read, or its refusal.
 fn put_reading(out: &mut [u64; 7], got: Reading) -> u8
@@ -55,7 +55,7 @@ pub extern "C" fn gm_read(
     ensures { λ r. ⌜ r ≡ readCode (reading (countsAs (now (firsts .entry)) (now (seconds .entry))) (now (bytes .entry)) at) ⌝ }
     ensures { λ r. ⌜ now (out .exit) ≡ readWords (reading (countsAs (now (firsts .entry)) (now (seconds .entry))) (now (bytes .entry)) at) (now (out .entry)) ⌝ }
 {
-    let got = records::read(bytes, at, firsts, seconds);
+    let got = readings::read(bytes, at, firsts, seconds);
     put_reading(out, got)
 }
 
@@ -70,7 +70,7 @@ pub extern "C" fn gm_read_lone(
     ensures { λ r. ⌜ r ≡ readCode (readingLone (countsAs (now (firsts .entry)) (now (seconds .entry))) (now (bytes .entry))) ⌝ }
     ensures { λ r. ⌜ now (out .exit) ≡ readWords (readingLone (countsAs (now (firsts .entry)) (now (seconds .entry))) (now (bytes .entry))) (now (out .entry)) ⌝ }
 {
-    let got = records::read_lone(bytes, firsts, seconds);
+    let got = readings::read_lone(bytes, firsts, seconds);
     put_reading(out, got)
 }
 
@@ -88,7 +88,7 @@ pub extern "C" fn gm_read_desk(
     ensures { λ r. ⌜ (r ≡ 0 → partTold (now (out .exit)) (now (bytes .entry)) ≡ shownToDesk (countsAs (now (firsts .entry)) (now (seconds .entry))) (now (bytes .entry)) [] .roster) ⌝ }
 {
     let mut roster = &bytes[..0];
-    match records::read_desk(bytes, firsts, seconds, &mut roster) {
+    match heads::read_desk(bytes, firsts, seconds, &mut roster) {
         Sight::Refused(fault) => fault,
         Sight::Seen(kind, own) => {
             let word = words::kind_word(kind);
@@ -105,7 +105,7 @@ pub extern "C" fn gm_read_desk(
 pub extern "C" fn gm_roster_is(bytes: &[u8], at: usize, count: usize, list: &[u32]) -> u8
     ensures { λ r. ⌜ r ≡ yesCode (rosterIs (now (bytes .entry)) at count (now (list .entry))) ⌝ }
 {
-    let same = records::roster_is(bytes, at, count, list);
+    let same = roster_bytes::roster_is(bytes, at, count, list);
     words::yes_code(same)
 }
 
@@ -115,7 +115,7 @@ pub extern "C" fn gm_copy_roster(bytes: &[u8], at: usize, count: usize, list: &m
     ensures { λ r. ⌜ r ≡ yesCode (copiable (now (bytes .entry)) at count) ⌝ }
     ensures { λ r. ⌜ now (list .exit) ≡ copied (now (bytes .entry)) at count (now (list .entry)) ⌝ }
 {
-    let done = records::copy_roster(bytes, at, count, list);
+    let done = roster_bytes::copy_roster(bytes, at, count, list);
     words::yes_code(done)
 }
 

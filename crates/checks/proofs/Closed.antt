@@ -5,18 +5,18 @@ use mathlib.Core.Logic.{_⊎_, inl, inr}
 use Prim.Native.Nat.{ℕ, zero, suc, _<_, _≤_}
 use native.Mathlib.Omega.{arith}
 use lib.Dec.{eqb}
-use Rattle.places.specs.Sets.{Places, below, intersection, difference, without, all, subset, count}
-use Rattle.places.specs.PlaceSets.{has, kept}
-use Rattle.places.specs.declared.PlaceSet.{PlaceSet}
-use Rattle.places.proofs.Booleans.{clash, is-false, and-left, and-right, not-true, implies-intro, eqb-self}
-use Rattle.places.proofs.Tests.{all-elim, all-intro, subset-elim, subset-intro, subset-fails}
-use Rattle.places.proofs.Counting.{count-less}
-use Rattle.places.proofs.Laws.{has-below}
+use Rattle.sets.specs.Sets.{Places, below, intersection, difference, without, all, subset, count}
+use Rattle.sets.specs.PlaceSets.{has, kept}
+use Rattle.sets.specs.declared.PlaceSet.{PlaceSet}
+use Rattle.sets.proofs.Booleans.{clash, is-false, and-left, and-right, not-true, implies-intro, eqb-self}
+use Rattle.sets.proofs.Tests.{all-elim, all-intro, subset-elim, subset-intro, subset-fails}
+use Rattle.sets.proofs.Counting.{count-less}
+use Rattle.sets.proofs.Laws.{has-below}
 use Rattle.histories.specs.Histories.{Row, History, Before, heard, through}
 use Rattle.histories.specs.Rule.{reach}
 use Rattle.histories.proofs.Closure.{reach-heard, reach-trans, reach-sound}
-use Rattle.checks.specs.Checks.{Covered}
-use Rattle.checks.proofs.Laws.{Turns, turns-fewer, turns-next, turns-end, cut-at, all-not}
+use Rattle.answers.specs.Checks.{Covered}
+use Rattle.checks.proofs.Checks.{Turns, turns-fewer, turns-next, turns-end, cut-at, all-not}
 
 -- the members of the row of p are covered
 abbrev pub AllCovered : ℕ → History → Row → ℕ → Type 0

@@ -10,17 +10,17 @@ use lib.Dec.{ltb, eqb}
 use lib.ListN.{length, getD, set, length-set}
 use lib.Seq.{getD-set-same, getD-set-other}
 use borrow.Author.Tests.{ltb-true, lt-ltb, ne-eqb, eqb-true}
-use Rattle.places.specs.Sets.{Places, nothing, below, intersection, with, without, any, all, count}
-use Rattle.places.specs.PlaceSets.{has, kept}
-use Rattle.places.specs.declared.PlaceSet.{PlaceSet}
-use Rattle.places.proofs.Booleans.{clash, is-false, and-intro, and-left, and-right, or-cases, or-left, or-right, not-intro, minus-elim, minus-intro, eqb-self}
-use Rattle.places.proofs.Tests.{any-elim, any-none, all-intro, last-or-below}
-use Rattle.places.proofs.Counting.{count-at-most, count-without}
-use Rattle.places.proofs.Laws.{has-below, kept-with, without-count}
+use Rattle.sets.specs.Sets.{Places, nothing, below, intersection, with, without, any, all, count}
+use Rattle.sets.specs.PlaceSets.{has, kept}
+use Rattle.sets.specs.declared.PlaceSet.{PlaceSet}
+use Rattle.sets.proofs.Booleans.{clash, is-false, and-intro, and-left, and-right, or-cases, or-left, or-right, not-intro, minus-elim, minus-intro, eqb-self}
+use Rattle.sets.proofs.Tests.{any-elim, any-none, all-intro, last-or-below}
+use Rattle.sets.proofs.Counting.{count-at-most, count-without}
+use Rattle.sets.proofs.Laws.{has-below, kept-with, without-count}
 use Rattle.histories.specs.Histories.{History, Before, heard, through}
 use Rattle.histories.specs.Rule.{reach}
 use Rattle.histories.proofs.Closure.{before-trans, reach-sound, reach-complete}
-use Rattle.checks.proofs.Laws.{all-not}
+use Rattle.checks.proofs.Checks.{all-not}
 
 -- ---- places from which no walk goes round
 

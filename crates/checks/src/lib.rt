@@ -3,25 +3,24 @@
 ghost use mathlib.Core.Path.{_≡_};
 ghost use mathlib.Core.Bool.{true, false, not, _&&_, _||_};
 ghost use Prim.Native.Nat.{ℕ, _-_, _<_, _≤_};
-ghost use lib.Dec.{leb};
 ghost use lib.ListN.{getD};
-ghost use Rattle.places.specs.Sets.{intersection, any, all, subset, same};
-ghost use Rattle.places.specs.PlaceSets.{has};
+ghost use Rattle.sets.specs.Sets.{intersection, any, all, subset, same};
+ghost use Rattle.sets.specs.PlaceSets.{has};
 ghost use Rattle.rows.specs.Rows.{rowsOf, historyIn};
 ghost use Rattle.histories.specs.Rule.{reach, fitsTest};
 ghost use Rattle.answers.specs.Views.{size, acceptedIn};
-ghost use Rattle.checks.specs.Checks.{offRoster, Covered};
-use places::Found;
-use places::Place;
-use places::PlaceSet;
+ghost use Rattle.answers.specs.Checks.{offRoster, Covered};
 use rows::Rows;
+use sets::Found;
+use sets::Place;
+use sets::PlaceSet;
 
 // The lent row of a place, as it is in the history of every roster that has the place.
 fn lent_row(history: &[u8], p: usize) -> PlaceSet
     requires { ⌜ p < 128 ⌝ }
     ensures { λ r. ⌜ ((n : ℕ) → p < n → has r ≡ historyIn n (now (history .entry)) p) ⌝ }
 {
-    rows::read(history, Place(p))
+    row_bytes::read(history, Place(p))
 }
 
 // The places that stand in some row.
@@ -42,7 +41,7 @@ fn all_named(history: &[u8], n: usize) -> PlaceSet
 pub fn off_roster(history: &[u8], count: usize) -> bool
     ensures { λ r. ⌜ r ≡ offRoster (size count) (historyIn (size count) (now (history .entry))) ⌝ }
 {
-    let n = answers::size(count);
+    let n = standings::size(count);
     let off = places::difference(all_named(history, n), places::below(n));
     !places::is_empty(off)
 }
@@ -54,7 +53,7 @@ fn row_recorded(history: &[u8], rows: &Rows, n: usize, p: usize) -> bool
 {
     let roster = places::below(n);
     let lent = places::intersection(lent_row(history, p), roster);
-    let recorded = places::intersection(rows::get(rows, Place(p)), roster);
+    let recorded = places::intersection(row_tables::get(rows, Place(p)), roster);
     places::same(lent, recorded)
 }
 
@@ -185,7 +184,7 @@ fn no_circle(history: &[u8], n: usize) -> bool
 pub fn fits(rows: &Rows, returned: PlaceSet, full: PlaceSet, count: usize, history: &[u8]) -> bool
     ensures { λ r. ⌜ r ≡ fitsTest (size count) (acceptedIn count (has returned) (has full) (now (rows .entry))) (historyIn (size count) (now (history .entry))) ⌝ }
 {
-    let n = answers::size(count);
+    let n = standings::size(count);
     if !all_recorded(history, rows, returned, n) {
         return false;
     }

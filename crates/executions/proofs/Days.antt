@@ -9,10 +9,10 @@ use lib.ListN.{length, replicate, length-append, length-replicate}
 use lib.Seq.{take-append-seam}
 use lib.Dec.{eqb, ltb, leb}
 use borrow.Author.Tests.{eqb-true, eq-eqb, ne-eqb, ltb-true, ltb-false, lt-ltb, leb-true, le-leb}
-use Rattle.places.specs.Sets.{Places, nothing, below, intersection, with}
-use Rattle.places.specs.PlaceSets.{has, packed}
-use Rattle.places.proofs.Booleans.{clash, is-false, and-left, and-right, or-cases}
-use Rattle.places.proofs.Laws.{kept-with, has-packed}
+use Rattle.sets.specs.Sets.{Places, nothing, below, intersection, with}
+use Rattle.sets.specs.PlaceSets.{has, packed}
+use Rattle.sets.proofs.Booleans.{clash, is-false, and-left, and-right, or-cases}
+use Rattle.sets.proofs.Laws.{kept-with, has-packed}
 use Rattle.histories.specs.declared.Kind.{Kind}
 use Rattle.rows.specs.Rows.{noRows, rowsOf, tableOf}
 use Rattle.rows.proofs.Laws.{rows-of, no-rows-length, rows-past}

@@ -6,8 +6,8 @@ use Prim.Native.Nat.{ℕ, suc, _<_}
 use native.Mathlib.Omega.{arith}
 use lib.Dec.{eqb, ltb}
 use borrow.Author.Tests.{eqb-true, eq-eqb, ne-eqb, ltb-true, lt-ltb}
-use Rattle.places.specs.Sets.{Places, with}
-use Rattle.places.proofs.Booleans.{split, clash, is-false, and-intro, and-left, and-right, or-cases, or-left, or-right, not-true, not-intro, minus-elim, minus-intro}
+use Rattle.sets.specs.Sets.{Places, with}
+use Rattle.sets.proofs.Booleans.{split, clash, is-false, and-intro, and-left, and-right, or-cases, or-left, or-right, not-true, not-intro, minus-elim, minus-intro}
 use Rattle.histories.specs.declared.Kind.{Kind}
 use Rattle.histories.specs.declared.Kind.the-variants.{Full, Short}
 use Rattle.histories.specs.Histories.{History, Before, heard, through}

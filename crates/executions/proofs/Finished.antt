@@ -8,39 +8,39 @@ use native.Mathlib.Omega.{arith}
 use lib.ListN.{length, getD, length-append}
 use lib.Dec.{eqb}
 use borrow.Author.Tests.{lt-ltb, le-leb, eqb-true}
-use Rattle.places.specs.Sets.{any}
-use Rattle.places.proofs.Booleans.{split, clash, is-false, or-cases, or-left, or-right, eqb-self}
-use Rattle.places.proofs.Tests.{last-or-below, any-elim, any-none}
+use Rattle.sets.specs.Sets.{any}
+use Rattle.sets.proofs.Booleans.{split, clash, is-false, or-cases, or-left, or-right, eqb-self}
+use Rattle.sets.proofs.Tests.{last-or-below, any-elim, any-none}
 use Rattle.histories.specs.declared.Kind.{Kind}
 use Rattle.histories.specs.Histories.{History, none, Fits, Last}
 use Rattle.histories.specs.Earlier.{IsHistory}
 use Rattle.histories.proofs.Closure.{before-closed}
-use Rattle.rosters.specs.Rosters.{IsRoster, listed}
-use Rattle.rosters.specs.declared.Listed.{Listed}
-use Rattle.rosters.specs.declared.Listed.the-variants as L
-use Rattle.rosters.proofs.Laws.{listed-sound}
-use Rattle.rosters.specs.Seconds.{countsAs}
-use Rattle.records.specs.declared.Writing.the-variants as W
-use Rattle.records.specs.Layout.{refused, knownKind, kindOf, layout}
-use Rattle.records.specs.Records.{putAt, writtenAt}
-use Rattle.records.proofs.Layouts.{IsStored}
-use Rattle.records.proofs.Trips.{layout-lone}
-use Rattle.recovery.specs.declared.Recovery.{Recovery}
-use Rattle.recovery.specs.declared.Opening as recovery
-use Rattle.recovery.specs.declared.Opening.the-variants as R
-use Rattle.recovery.specs.declared.Opened.{Opened}
-use Rattle.replies.specs.declared.Reply.the-variants as O
-use Rattle.recovery.specs.declared.Asked.{Asked}
-use Rattle.recovery.specs.Contracts.{secondsOf, acceptedOf, unopened, openedAs, opened}
-use Rattle.recovery.specs.Demand as D
-use Rattle.recovery.specs.Demand.{ask, says, OfGroup}
-use Rattle.recovery.specs.Run.{openingSays, askedSays, outcome, left, reached}
-use Rattle.recovery.proofs.Opens.{opens, opened-free}
-use Rattle.recovery.proofs.Keeps.{fresh-accepted}
-use Rattle.recovery.specs.Later.{offers, Accepts}
-use Rattle.recovery.proofs.Demand.{Good, good-opened, good-after, step}
-use Rattle.recovery.proofs.Dictated.{last-iff, not-last-iff, Agrees}
-use Rattle.recovery.proofs.Later.{Model, agreeing-accepted}
+use Rattle.serials.specs.Rosters.{IsRoster, listed}
+use Rattle.serials.specs.declared.Listed.{Listed}
+use Rattle.serials.specs.declared.Listed.the-variants as L
+use Rattle.serials.proofs.Rosters.{listed-sound}
+use Rattle.serials.specs.Seconds.{countsAs}
+use Rattle.layouts.specs.declared.Writing.the-variants as W
+use Rattle.layouts.specs.Layout.{refused, knownKind, kindOf, layout}
+use Rattle.layouts.specs.Records.{putAt, writtenAt}
+use Rattle.layouts.proofs.Layouts.{IsStored}
+use Rattle.layouts.proofs.Trips.{layout-lone}
+use Rattle.calls.specs.declared.Recovery.{Recovery}
+use Rattle.calls.specs.declared.Opening as recovery
+use Rattle.calls.specs.declared.Opening.the-variants as R
+use Rattle.calls.specs.declared.Opened.{Opened}
+use Rattle.answers.specs.declared.Reply.the-variants as O
+use Rattle.calls.specs.declared.Asked.{Asked}
+use Rattle.calls.specs.Contracts.{secondsOf, acceptedOf, unopened, openedAs, opened}
+use Rattle.calls.specs.Demand as D
+use Rattle.calls.specs.Demand.{ask, says, OfGroup}
+use Rattle.calls.specs.Run.{openingSays, askedSays, outcome, left, reached}
+use Rattle.calls.proofs.Opens.{opens, opened-free}
+use Rattle.calls.proofs.Keeps.{fresh-accepted}
+use Rattle.calls.specs.Later.{offers, Accepts}
+use Rattle.calls.proofs.Demand.{Good, good-opened, good-after, step}
+use Rattle.calls.proofs.Dictated.{last-iff, not-last-iff, Agrees}
+use Rattle.calls.proofs.Later.{Model, agreeing-accepted}
 use Rattle.executions.specs.declared.Day.{Day}
 use Rattle.executions.specs.declared.Event.{Event}
 use Rattle.executions.specs.declared.Played.{Played}

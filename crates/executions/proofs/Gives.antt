@@ -7,18 +7,18 @@ use native.Mathlib.Omega.{arith}
 use lib.ListN.{length, drop, getD}
 use lib.Seq.{drop-cons, drop-length}
 use borrow.Author.Tests.{eq-eqb, ne-eqb, lt-ltb, le-ltb}
-use Rattle.places.specs.Sets.{Places, nothing, with}
-use Rattle.places.specs.PlaceSets.{has, kept, Words}
-use Rattle.places.specs.declared.PlaceSet.{PlaceSet}
-use Rattle.places.proofs.Laws.{packed-is}
+use Rattle.sets.specs.Sets.{Places, nothing, with}
+use Rattle.sets.specs.PlaceSets.{has, kept, Words}
+use Rattle.sets.specs.declared.PlaceSet.{PlaceSet}
+use Rattle.sets.proofs.Laws.{packed-is}
 use Rattle.histories.specs.declared.Kind.{Kind}
 use Rattle.histories.specs.declared.Kind.the-variants.{Full, Short}
-use Rattle.rosters.specs.Rosters.{listed, padded}
-use Rattle.rosters.specs.declared.Listed.{Listed}
-use Rattle.rosters.specs.declared.Listed.the-variants as L
-use Rattle.rosters.proofs.Pads.{padded-few}
+use Rattle.serials.specs.Rosters.{listed, padded}
+use Rattle.serials.specs.declared.Listed.{Listed}
+use Rattle.serials.specs.declared.Listed.the-variants as L
+use Rattle.serials.proofs.Pads.{padded-few}
 use Rattle.rows.specs.Rows.{noRows, rowsOf, tableOf}
-use Rattle.records.specs.Layout.{knownKind, kindOf}
+use Rattle.layouts.specs.Layout.{knownKind, kindOf}
 use Rattle.answers.specs.Views.{size}
 use Rattle.executions.specs.declared.Day.{Day}
 use Rattle.executions.specs.declared.Opening.the-variants as G

@@ -6,6 +6,3 @@ pub mod Plays
 pub mod Finished
 pub mod Cases
 pub mod Gives
-pub mod Faults
-pub mod Notes
-pub mod Writes

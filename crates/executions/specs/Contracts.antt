@@ -5,17 +5,17 @@ use mathlib.Core.List.{List, [], _∷_, _++_}
 use Prim.Native.Nat.{ℕ, zero, suc, _+_, _-_, _^_}
 use lib.ListN.{length, take, replicate}
 use lib.Dec.{eqb, ltb}
-use Rattle.places.specs.Sets.{Places, nothing, below, intersection, with}
-use Rattle.places.specs.PlaceSets.{has, packed}
+use Rattle.sets.specs.Sets.{Places, nothing, below, intersection, with}
+use Rattle.sets.specs.PlaceSets.{has, packed}
 use Rattle.histories.specs.declared.Kind.{Kind}
 use Rattle.histories.specs.declared.Kind.the-variants.{Full, Short}
 use Rattle.histories.specs.Histories.{History}
-use Rattle.rosters.specs.Rosters.{listed}
-use Rattle.rosters.specs.declared.Listed.{Listed}
-use Rattle.rosters.specs.declared.Listed.the-variants as L
+use Rattle.serials.specs.Rosters.{listed}
+use Rattle.serials.specs.declared.Listed.{Listed}
+use Rattle.serials.specs.declared.Listed.the-variants as L
 use Rattle.rows.specs.Rows.{noRows, rowsOf, tableOf}
-use Rattle.records.specs.Layout.{knownKind, kindOf, Stored, layout}
-use Rattle.records.specs.Records.{Written, unwritten, writtenAt}
+use Rattle.layouts.specs.Layout.{knownKind, kindOf, Stored, layout}
+use Rattle.layouts.specs.Records.{Written, unwritten, writtenAt}
 use Rattle.answers.specs.Views.{size}
 use Rattle.executions.specs.declared.Day.{Day}
 use Rattle.executions.specs.declared.Opening.{Opening}

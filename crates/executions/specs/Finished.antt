@@ -6,12 +6,12 @@ use mathlib.Core.Logic.{_⊎_}
 use mathlib.Core.List.{List, map}
 use Prim.Native.Nat.{ℕ, _<_}
 use Rattle.histories.specs.Histories.{Last}
-use Rattle.records.specs.Layout.{layout}
-use Rattle.recovery.specs.declared.Recovery.{Recovery}
-use Rattle.recovery.specs.declared.Asked.the-variants as A
-use Rattle.recovery.specs.Contracts.{asked}
-use Rattle.recovery.specs.Demand as D
-use Rattle.recovery.specs.Demand.{Said, refused}
+use Rattle.layouts.specs.Layout.{layout}
+use Rattle.calls.specs.declared.Recovery.{Recovery}
+use Rattle.calls.specs.declared.Asked.the-variants as A
+use Rattle.calls.specs.Contracts.{asked}
+use Rattle.calls.specs.Demand as D
+use Rattle.calls.specs.Demand.{Said, refused}
 use Rattle.executions.specs.declared.Day.{Day}
 use Rattle.executions.specs.Contracts.{sizeOf, executionOf, recordOf}
 

@@ -1,6 +1,6 @@
 -- What the inner functions of a day are held to, by the parts that each looks at. Assumes nothing.
 use Prim.Native.Nat.{ℕ}
-use Rattle.places.specs.Sets.{Places, nothing, below, intersection}
+use Rattle.sets.specs.Sets.{Places, nothing, below, intersection}
 use Rattle.executions.specs.Executions.{Execution}
 
 -- an execution on the places below n by who has stopped, for tests that look at nothing else

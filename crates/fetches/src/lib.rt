@@ -1,19 +1,13 @@
 // How many places a crew has to fetch at most until the whole is settled, and which place next, by the parts of a recovery: no copy of the
-// whole is needed. The definitions that the contracts cite stand in specs/Fetches.antt.
+// whole is needed.
 ghost use mathlib.Core.Path.{_≡_};
-ghost use Rattle.places.specs.PlaceSets.{has};
+ghost use Rattle.sets.specs.PlaceSets.{has};
 ghost use Rattle.answers.specs.Views.{size, acceptedIn};
-ghost use Rattle.fetches.specs.Fetches.{blockingBy, fetchingBy};
-use places::Found;
-use places::Place;
-use places::PlaceSet;
+ghost use Rattle.answers.specs.Fetches.{blockingBy, fetchingBy};
+use answers::Fetching;
 use rows::Rows;
-
-// Nothing is open; or so many fetches surely suffice, and this place is next.
-pub enum Fetching {
-    Settled,
-    Needs(usize, Place),
-}
+use sets::Found;
+use sets::PlaceSet;
 
 // The places that block some unmourned place. No more are looked for once all that are missing are among them.
 fn blocking(
@@ -26,8 +20,8 @@ fn blocking(
 ) -> PlaceSet
     ensures { λ r. ⌜ has r ≡ blockingBy (size count) (acceptedIn count (has returned) (has full) (now (rows .entry))) (has mourned) (has earlier) ⌝ }
 {
-    let missing = answers::unheard(returned, earlier, count);
-    let mut unasked = answers::unmourned(mourned, count);
+    let missing = standings::unheard(returned, earlier, count);
+    let mut unasked = standings::unmourned(mourned, count);
     let mut known = places::empty();
     loop {
         if places::is_subset(missing, known) {
@@ -37,7 +31,7 @@ fn blocking(
         let Found::At(p) = found else {
             return known;
         };
-        let own = answers::blockers(rows, returned, full, mourned, earlier, count, p);
+        let own = blocking::blockers(rows, returned, full, mourned, earlier, count, p);
         known = places::union(known, own);
         unasked = places::without(unasked, p);
     }

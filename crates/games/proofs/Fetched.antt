@@ -8,35 +8,35 @@ use native.Mathlib.Omega.{arith}
 use lib.ListN.{length}
 use lib.Dec.{eqb}
 use borrow.Author.Tests.{ne-eqb}
-use Rattle.places.specs.Sets.{nothing, without, any, count, lowest}
-use Rattle.places.proofs.Booleans.{split, clash, both-ways, minus-elim, minus-intro}
-use Rattle.places.proofs.Tests.{any-elim, any-intro, any-none, lowest-below, lowest-member}
-use Rattle.places.proofs.Counting.{count-same, count-nothing, count-subset, count-without, count-some}
+use Rattle.sets.specs.Sets.{nothing, without, any, count, lowest}
+use Rattle.sets.proofs.Booleans.{split, clash, both-ways, minus-elim, minus-intro}
+use Rattle.sets.proofs.Tests.{any-elim, any-intro, any-none, lowest-below, lowest-member}
+use Rattle.sets.proofs.Counting.{count-same, count-nothing, count-subset, count-without, count-some}
 use Rattle.histories.specs.declared.Kind.{Kind}
 use Rattle.histories.specs.declared.Kind.the-variants.{Full}
 use Rattle.histories.specs.Histories.{Row, Accepted, lay}
 use Rattle.histories.proofs.Fewer.{Within, within-trans}
-use Rattle.fetches.specs.Fetches.{blocking, told}
-use Rattle.fetches.specs.declared.Fetching.the-variants.{Settled, Needs}
-use Rattle.fetches.proofs.Laws.{settled-told}
-use Rattle.fetches.proofs.Gathering.{blocking-absent}
-use Rattle.fetches.proofs.Records.{fewer-block, back-blocks-none, empty-fits, empty-takes-off}
-use Rattle.records.specs.Layout.{got, Stored, lone, layout}
-use Rattle.records.proofs.Layouts.{IsStored}
-use Rattle.records.proofs.Trips.{layout-lone}
-use Rattle.replies.specs.declared.Reply.{Reply}
-use Rattle.replies.specs.declared.Reply.the-variants as O
-use Rattle.recovery.specs.declared.Recovery.{Recovery}
-use Rattle.recovery.specs.Contracts.{sizeOf, rosterOf, secondsOf, aliasOf, acceptedOf, offered, settledOf, blockingOf, fetchingOf}
-use Rattle.recovery.specs.Demand as D
-use Rattle.recovery.specs.Demand.{Free, Call, offer, Ledger, says, OfGroup, takes}
-use Rattle.recovery.specs.Run.{offerSays, outcome, ledgerOf, left, reached}
-use Rattle.recovery.specs.Run as run
-use Rattle.recovery.proofs.Keeps.{kept-blocking}
-use Rattle.recovery.proofs.Demand.{Good, is-roster, is-size, is-alias, step, good-after, good-left}
-use Rattle.recovery.proofs.Single.{plain, single, same-record}
-use Rattle.recovery.proofs.Dictated.{within-left}
-use Rattle.recovery.proofs.Later.{offered-good, offered-enters, offered-within}
+use Rattle.answers.specs.Fetches.{blocking, told}
+use Rattle.answers.specs.declared.Fetching.the-variants.{Settled, Needs}
+use Rattle.answers.proofs.Fetches.{settled-told}
+use Rattle.answers.proofs.Gathering.{blocking-absent}
+use Rattle.answers.proofs.Records.{fewer-block, back-blocks-none, empty-fits, empty-takes-off}
+use Rattle.layouts.specs.Layout.{got, Stored, lone, layout}
+use Rattle.layouts.proofs.Layouts.{IsStored}
+use Rattle.layouts.proofs.Trips.{layout-lone}
+use Rattle.answers.specs.declared.Reply.{Reply}
+use Rattle.answers.specs.declared.Reply.the-variants as O
+use Rattle.calls.specs.declared.Recovery.{Recovery}
+use Rattle.calls.specs.Contracts.{sizeOf, rosterOf, secondsOf, aliasOf, acceptedOf, offered, settledOf, blockingOf, fetchingOf}
+use Rattle.calls.specs.Demand as D
+use Rattle.calls.specs.Demand.{Free, Call, offer, Ledger, says, OfGroup, takes}
+use Rattle.calls.specs.Run.{offerSays, outcome, ledgerOf, left, reached}
+use Rattle.calls.specs.Run as run
+use Rattle.calls.proofs.Keeps.{kept-blocking}
+use Rattle.calls.proofs.Demand.{Good, is-roster, is-size, is-alias, step, good-after, good-left}
+use Rattle.calls.proofs.Single.{plain, single, same-record}
+use Rattle.calls.proofs.Dictated.{within-left}
+use Rattle.calls.proofs.Later.{offered-good, offered-enters, offered-within}
 use Rattle.games.specs.Fetched.{number, Absent, HandedOver, emptyRecord, SettledWithin, done, fetch, OpenBeyond}
 
 -- ---- what is told, of any recovery whatever

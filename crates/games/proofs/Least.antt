@@ -7,9 +7,9 @@ use native.Mathlib.Numerals.{add-one}
 use native.Mathlib.Omega.{arith}
 use lib.Dec.{eqb}
 use borrow.Author.Tests.{ne-eqb, eq-eqb}
-use Rattle.places.specs.Sets.{Places, without, lowest}
-use Rattle.places.proofs.Booleans.{minus-elim}
-use Rattle.places.proofs.Tests.{last-or-below, lowest-below, lowest-member, lowest-is}
+use Rattle.sets.specs.Sets.{Places, without, lowest}
+use Rattle.sets.proofs.Booleans.{minus-elim}
+use Rattle.sets.proofs.Tests.{last-or-below, lowest-below, lowest-member, lowest-is}
 use Rattle.games.specs.Games.{leastWith, least, greatest}
 
 -- ---- the least

@@ -4,6 +4,5 @@
 pub mod Numbers
 pub mod Fetched
 pub mod Least
-pub mod Handing
 pub mod Turns
 pub mod Plays

@@ -5,15 +5,15 @@ use Prim.Native.Nat.{ℕ, _+_, _*_, _/_, _%_, _^_, _<_}
 use native.Mathlib.Omega.{arith}
 use native.Mathlib.Decide.{decLt}
 use borrow.Author.Tests.{eq-eqb, ne-eqb}
-use Rattle.places.specs.Sets.{nothing}
-use Rattle.places.specs.PlaceSets.{bit, word}
-use Rattle.places.proofs.Booleans.{is-false}
-use Rattle.places.proofs.Digits.{bit-high, bit-word, word-less}
+use Rattle.sets.specs.Sets.{nothing}
+use Rattle.sets.specs.PlaceSets.{bit, word}
+use Rattle.sets.proofs.Booleans.{is-false}
+use Rattle.sets.proofs.Digits.{bit-high, bit-word, word-less}
 use Rattle.histories.specs.declared.Kind.{Kind}
 use Rattle.histories.specs.declared.Kind.the-variants.{Full, Short}
 use Rattle.histories.specs.Histories.{Row}
-use Rattle.recovery.specs.declared.Recovery.{Recovery}
-use Rattle.recovery.specs.Contracts.{sizeOf}
+use Rattle.calls.specs.declared.Recovery.{Recovery}
+use Rattle.calls.specs.Contracts.{sizeOf}
 use Rattle.games.specs.Games.{kindNumbered, recordCount}
 
 pub kind-even : (j : ℕ) → j % 2 ≡ 0 → Full ≡ kindNumbered j

@@ -9,25 +9,25 @@ use native.Mathlib.Decide.{decLt}
 use lib.ListN.{length}
 use lib.Dec.{ltb}
 use borrow.Author.Tests.{ltb-true, lt-ltb}
-use Rattle.places.specs.Sets.{without, any, count}
-use Rattle.places.specs.PlaceSets.{bit}
-use Rattle.places.proofs.Booleans.{split, clash, is-false, minus-elim, minus-intro}
-use Rattle.places.proofs.Tests.{any-elim, none-any}
-use Rattle.places.proofs.Counting.{count-subset, count-without}
-use Rattle.places.proofs.Digits.{bit-zero, bit-high}
+use Rattle.sets.specs.Sets.{without, any, count}
+use Rattle.sets.specs.PlaceSets.{bit}
+use Rattle.sets.proofs.Booleans.{split, clash, is-false, minus-elim, minus-intro}
+use Rattle.sets.proofs.Tests.{any-elim, none-any}
+use Rattle.sets.proofs.Counting.{count-subset, count-without}
+use Rattle.sets.proofs.Digits.{bit-zero, bit-high}
 use Rattle.histories.specs.declared.Kind.the-variants.{Full}
 use Rattle.histories.specs.Histories.{Row}
-use Rattle.records.specs.Layout.{got, Stored, lone, layout}
-use Rattle.replies.specs.declared.Reply.{Reply}
-use Rattle.replies.specs.declared.Reply.the-variants as O
-use Rattle.recovery.specs.declared.Recovery.{Recovery}
-use Rattle.recovery.specs.Contracts.{sizeOf, rosterOf, aliasOf, acceptedOf, judged, offeredAs, offered, settledOf, blockingOf, fetchingOf}
-use Rattle.recovery.specs.Demand.{Free, Call}
-use Rattle.recovery.specs.Run.{left, reached}
-use Rattle.recovery.proofs.Facts.{lone-on}
-use Rattle.recovery.proofs.Demand.{Good, is-roster, is-size, is-alias, good-left}
-use Rattle.recovery.proofs.Single.{same-record}
-use Rattle.recovery.proofs.Later.{offered-good, offered-enters}
+use Rattle.layouts.specs.Layout.{got, Stored, lone, layout}
+use Rattle.answers.specs.declared.Reply.{Reply}
+use Rattle.answers.specs.declared.Reply.the-variants as O
+use Rattle.calls.specs.declared.Recovery.{Recovery}
+use Rattle.calls.specs.Contracts.{sizeOf, rosterOf, aliasOf, acceptedOf, judged, offeredAs, offered, settledOf, blockingOf, fetchingOf}
+use Rattle.calls.specs.Demand.{Free, Call}
+use Rattle.calls.specs.Run.{left, reached}
+use Rattle.calls.proofs.Facts.{lone-on}
+use Rattle.calls.proofs.Demand.{Good, is-roster, is-size, is-alias, good-left}
+use Rattle.calls.proofs.Single.{same-record}
+use Rattle.calls.proofs.Later.{offered-good, offered-enters}
 use Rattle.games.specs.declared.Played.the-variants as P
 use Rattle.games.specs.Fetched.{number, Absent, HandedOver, emptyRecord}
 use Rattle.games.specs.Games.{absentOf, absentCount, least, kindNumbered, recordNumbered, recordCount, handed, isTaken, lasting, hillsTurn, crewsTurn, played}

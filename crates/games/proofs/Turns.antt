@@ -10,29 +10,29 @@ use lib.Dec.{eqb, ltb}
 use lib.ListN.{length, length-take}
 use lib.Pow.{shl-exact}
 use borrow.Author.Tests.{ltb-true, lt-ltb, ne-eqb, le-leb, lt-leb}
-use Rattle.places.specs.Sets.{Places, nothing, with, without, same, count, lowest}
-use Rattle.places.specs.PlaceSets.{has, packed, found}
-use Rattle.places.specs.declared.Place.{Place}
-use Rattle.places.specs.declared.PlaceSet.{PlaceSet}
-use Rattle.places.specs.declared.Found.the-variants.{At, Nothing}
-use Rattle.places.proofs.Booleans.{clash, minus-elim, minus-intro, eqb-self}
-use Rattle.places.proofs.Counting.{count-same, count-nothing, count-at-most, count-one-more, count-without}
-use Rattle.places.proofs.Laws.{has-packed, kept-with, lowest-found, lowest-nothing, without-count}
+use Rattle.sets.specs.Sets.{Places, nothing, with, without, same, count, lowest}
+use Rattle.sets.specs.PlaceSets.{has, packed, found}
+use Rattle.sets.specs.declared.Place.{Place}
+use Rattle.sets.specs.declared.PlaceSet.{PlaceSet}
+use Rattle.sets.specs.declared.Found.the-variants.{At, Nothing}
+use Rattle.sets.proofs.Booleans.{clash, minus-elim, minus-intro, eqb-self}
+use Rattle.sets.proofs.Counting.{count-same, count-nothing, count-at-most, count-one-more, count-without}
+use Rattle.sets.proofs.Laws.{has-packed, kept-with, lowest-found, lowest-nothing, without-count}
 use Rattle.histories.specs.declared.Kind.{Kind}
 use Rattle.histories.specs.declared.Kind.the-variants.{Full, Short}
 use Rattle.histories.specs.Histories.{Row}
 use Rattle.histories.specs.Rule.{accepts}
 use Rattle.answers.specs.Views.{acceptedIn}
-use Rattle.records.specs.Layout.{Parsed, got, refused, Stored, lone, layout}
-use Rattle.replies.specs.declared.Reply.{Reply}
-use Rattle.replies.specs.declared.Reply.the-variants as O
-use Rattle.replies.specs.Replies.{sameKind, entering}
-use Rattle.recovery.specs.declared.Recovery.{Recovery}
-use Rattle.recovery.specs.declared.Offered.{Offered}
-use Rattle.recovery.specs.Contracts.{sizeOf, rosterOf, aliasOf, acceptedOf, ofGroup, saying, keepingFull, keepingRow, keeping, answered, entered, judged, offeredAs, offered, settledOf}
-use Rattle.recovery.proofs.Facts.{lone-on}
-use Rattle.recovery.proofs.Calls.{group-elim, entered-again, entered-new}
-use Rattle.recovery.proofs.Keeps.{size-few}
+use Rattle.layouts.specs.Layout.{Parsed, got, refused, Stored, lone, layout}
+use Rattle.answers.specs.declared.Reply.{Reply}
+use Rattle.answers.specs.declared.Reply.the-variants as O
+use Rattle.answers.specs.Replies.{sameKind, entering}
+use Rattle.calls.specs.declared.Recovery.{Recovery}
+use Rattle.calls.specs.declared.Offered.{Offered}
+use Rattle.calls.specs.Contracts.{sizeOf, rosterOf, aliasOf, acceptedOf, ofGroup, saying, keepingFull, keepingRow, keeping, answered, entered, judged, offeredAs, offered, settledOf}
+use Rattle.calls.proofs.Facts.{lone-on}
+use Rattle.calls.proofs.Calls.{group-elim, entered-again, entered-new}
+use Rattle.calls.proofs.Keeps.{size-few}
 use Rattle.games.specs.Games.{absentOf, absentCount, least, greatest, recordNumbered, recordCount, handed, isTaken, lasting, hillsTurn, crewsTurn, played}
 use Rattle.games.specs.declared.Played.the-variants as P
 use Rattle.games.proofs.Least.{least-bound, Looking, looking-first, looking-next, looking-done, greatest-next, greatest-stays, greatest-bound}

@@ -3,16 +3,16 @@ use mathlib.Core.Path.{_≡_}
 use mathlib.Core.Bool.{true, false}
 use mathlib.Core.List.{List}
 use Prim.Native.Nat.{ℕ, zero, suc, _<_}
-use Rattle.places.specs.Sets.{nothing}
+use Rattle.sets.specs.Sets.{nothing}
 use Rattle.histories.specs.declared.Kind.{Kind}
-use Rattle.fetches.specs.declared.Fetching.{Fetching}
-use Rattle.fetches.specs.declared.Fetching.the-variants.{Settled, Needs}
-use Rattle.records.specs.Layout.{got, Stored, lone, layout}
-use Rattle.recovery.specs.declared.Recovery.{Recovery}
-use Rattle.recovery.specs.Contracts.{sizeOf, rosterOf, aliasOf, acceptedOf, offered, settledOf, fetchingOf}
-use Rattle.recovery.specs.Demand.{Call}
-use Rattle.recovery.specs.Run.{left}
-use Rattle.recovery.specs.Later.{IsAccepted}
+use Rattle.answers.specs.declared.Fetching.{Fetching}
+use Rattle.answers.specs.declared.Fetching.the-variants.{Settled, Needs}
+use Rattle.layouts.specs.Layout.{got, Stored, lone, layout}
+use Rattle.calls.specs.declared.Recovery.{Recovery}
+use Rattle.calls.specs.Contracts.{sizeOf, rosterOf, aliasOf, acceptedOf, offered, settledOf, fetchingOf}
+use Rattle.calls.specs.Demand.{Call}
+use Rattle.calls.specs.Run.{left}
+use Rattle.calls.specs.Later.{IsAccepted}
 
 -- the number of fetches that is told: none where the whole is settled
 unfoldable pub number : Fetching → ℕ

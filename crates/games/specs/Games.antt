@@ -3,17 +3,17 @@
 use mathlib.Core.Bool.{Bool, true, false, cond}
 use Prim.Native.Nat.{ℕ, zero, suc, _*_, _/_, _%_, _^_, min, max}
 use lib.Dec.{eqb, leb}
-use Rattle.places.specs.Sets.{Places, below, difference, count, lowest}
-use Rattle.places.specs.PlaceSets.{bit}
+use Rattle.sets.specs.Sets.{Places, below, difference, count, lowest}
+use Rattle.sets.specs.PlaceSets.{bit}
 use Rattle.histories.specs.declared.Kind.{Kind}
 use Rattle.histories.specs.declared.Kind.the-variants.{Full, Short}
 use Rattle.histories.specs.Histories.{Row}
-use Rattle.records.specs.Layout.{Stored, layout}
-use Rattle.replies.specs.declared.Reply.{Reply}
-use Rattle.replies.specs.declared.Reply.the-variants as O
-use Rattle.recovery.specs.declared.Recovery.{Recovery}
-use Rattle.recovery.specs.declared.Offered.{Offered}
-use Rattle.recovery.specs.Contracts.{sizeOf, rosterOf, acceptedOf, offered, settledOf}
+use Rattle.layouts.specs.Layout.{Stored, layout}
+use Rattle.answers.specs.declared.Reply.{Reply}
+use Rattle.answers.specs.declared.Reply.the-variants as O
+use Rattle.calls.specs.declared.Recovery.{Recovery}
+use Rattle.calls.specs.declared.Offered.{Offered}
+use Rattle.calls.specs.Contracts.{sizeOf, rosterOf, acceptedOf, offered, settledOf}
 use Rattle.games.specs.declared.Played.{Played}
 use Rattle.games.specs.declared.Played.the-variants as P
 

@@ -4,24 +4,19 @@ ghost use mathlib.Core.Path.{_≡_};
 ghost use mathlib.Core.Bool.{not};
 ghost use lib.Dec.{eqb};
 ghost use lib.ListN.{length, getD};
-ghost use Rattle.records.specs.Records.{readingLone};
-ghost use Rattle.groups.specs.Groups.{rosterLength, aliasIn, foundAmong, isFound, giving};
-use places::Place;
-use records::Reading;
-use rosters::Finding;
-use rosters::Serial;
-
-// Whether a place may be given a second serial, or which refusal that meets.
-pub enum Giving {
-    Given,
-    Refused(u8),
-}
+ghost use Rattle.layouts.specs.Records.{readingLone};
+ghost use Rattle.answers.specs.Groups.{rosterLength, aliasIn, foundAmong, isFound, giving};
+use answers::Giving;
+use layouts::Reading;
+use serials::Finding;
+use serials::Serial;
+use sets::Place;
 
 // How many of the serials are the roster's: one for each place, and no more than there are.
 pub fn roster_length(count: usize, serials: &[u32]) -> usize
     ensures { λ m. ⌜ m ≡ rosterLength count (length (now (serials .entry))) ⌝ }
 {
-    let n = answers::size(count);
+    let n = standings::size(count);
     if n < serials.len() {
         return n;
     }
@@ -34,7 +29,7 @@ pub fn find<'a>(count: usize, serials: &'a [u32], seconds: &'a [u32], serial: Se
 {
     let n = roster_length(count, serials);
     let m = roster_length(count, seconds);
-    rosters::look_up(&serials[..n], 0, &serials[..n], &seconds[..m], serial)
+    lookups::look_up(&serials[..n], 0, &serials[..n], &seconds[..m], serial)
 }
 
 // Reads a lone record, whose own and mourned serials may be second ones of this group.
@@ -43,7 +38,7 @@ pub fn read_lone<'a>(count: usize, serials: &'a [u32], seconds: &'a [u32], bytes
 {
     let n = roster_length(count, serials);
     let m = roster_length(count, seconds);
-    records::read_lone(bytes, &serials[..n], &seconds[..m])
+    readings::read_lone(bytes, &serials[..n], &seconds[..m])
 }
 
 // Whether a serial is known in the group.
@@ -78,7 +73,7 @@ pub fn may_give<'a>(
 ) -> Giving
     ensures { λ r. ⌜ r ≡ giving count (now (serials .entry)) (now (seconds .entry)) (place .0) (serial .0) ⌝ }
 {
-    let n = answers::size(count);
+    let n = standings::size(count);
     if n <= place.0 {
         return Giving::Refused(12);
     }

@@ -6,9 +6,9 @@ use mathlib.Core.Logic.{_⊎_, inl, inr, _↔_}
 use Prim.Native.Nat.{ℕ, _<_}
 use lib.Dec.{eqb}
 use borrow.Author.Tests.{eqb-true, ne-eqb}
-use Rattle.places.specs.Sets.{union, any, all, subset}
-use Rattle.places.proofs.Booleans.{split, clash, is-false, both-ways, or-cases, and-intro, and-left, and-right, or-left, or-right, not-true, not-intro, implies-elim, implies-intro, eqb-self}
-use Rattle.places.proofs.Tests.{any-elim, any-intro, all-elim, all-intro, all-fails, subset-elim, subset-intro, subset-fails}
+use Rattle.sets.specs.Sets.{union, any, all, subset}
+use Rattle.sets.proofs.Booleans.{split, clash, is-false, both-ways, or-cases, and-intro, and-left, and-right, or-left, or-right, not-true, not-intro, implies-elim, implies-intro, eqb-self}
+use Rattle.sets.proofs.Tests.{any-elim, any-intro, all-elim, all-intro, all-fails, subset-elim, subset-intro, subset-fails}
 use Rattle.histories.specs.declared.Kind.{Kind}
 use Rattle.histories.specs.declared.Kind.the-variants.{Full, Short}
 use Rattle.histories.specs.Histories.{Row, History, Before, heard, through, Accepted, lay, Fits}

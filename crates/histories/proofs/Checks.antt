@@ -4,9 +4,9 @@ use mathlib.Core.Bool.{true, false, not, _&&_, _||_}
 use mathlib.Core.Logic.{_↔_}
 use Prim.Native.Nat.{ℕ, _<_}
 use native.Mathlib.Decide.{decLt}
-use Rattle.places.specs.Sets.{all, subset, same}
-use Rattle.places.proofs.Booleans.{clash, is-false, and-intro, and-left, and-right, not-true, not-intro, implies-elim, implies-intro}
-use Rattle.places.proofs.Tests.{all-elim, all-intro, subset-elim, subset-intro, same-elim, same-intro}
+use Rattle.sets.specs.Sets.{all, subset, same}
+use Rattle.sets.proofs.Booleans.{clash, is-false, and-intro, and-left, and-right, not-true, not-intro, implies-elim, implies-intro}
+use Rattle.sets.proofs.Tests.{all-elim, all-intro, subset-elim, subset-intro, same-elim, same-intro}
 use Rattle.histories.specs.declared.Kind.the-variants.{Full}
 use Rattle.histories.specs.Histories.{Row, History, Before, heard, through, Accepted, Fits}
 use Rattle.histories.specs.Rule.{reach, fullBack, dutyMet, fitsTest}

@@ -4,8 +4,8 @@ use mathlib.Core.Bool.{true, _&&_, _||_}
 use mathlib.Core.Logic.{_⊎_, inl, inr}
 use Prim.Native.Nat.{ℕ, zero, suc, _<_}
 use native.Mathlib.Omega.{arith}
-use Rattle.places.proofs.Booleans.{and-intro, and-left, and-right, or-cases, or-left, or-right}
-use Rattle.places.proofs.Tests.{last-or-below}
+use Rattle.sets.proofs.Booleans.{and-intro, and-left, and-right, or-cases, or-left, or-right}
+use Rattle.sets.proofs.Tests.{last-or-below}
 use Rattle.histories.specs.Histories.{History, Before, heard, through}
 use Rattle.histories.specs.Rule.{reach}
 

@@ -9,9 +9,9 @@ use native.Mathlib.Decide.{ℕ-discrete}
 use lib.Dec.{eqb, ltb}
 use lib.ListN.{length}
 use borrow.Author.Tests.{eqb-false, eq-eqb, ne-eqb, ltb-true}
-use Rattle.places.specs.Sets.{Places, without, count}
-use Rattle.places.proofs.Booleans.{clash, is-false, minus-elim, minus-intro, eqb-self}
-use Rattle.places.proofs.Counting.{count-same, count-nothing, count-without}
+use Rattle.sets.specs.Sets.{Places, without, count}
+use Rattle.sets.proofs.Booleans.{clash, is-false, minus-elim, minus-intro, eqb-self}
+use Rattle.sets.proofs.Counting.{count-same, count-nothing, count-without}
 use Rattle.histories.specs.Histories.{History, Accepted, Fits}
 use Rattle.histories.specs.Rule.{mourned, unmourned, unmournedCount}
 use Rattle.histories.proofs.Exact.{Mourned, unmourned-iff}

@@ -4,10 +4,10 @@ use mathlib.Core.Bool.{Bool, true, false, not, cond, _&&_, _||_, and-true}
 use mathlib.Core.Logic.{_⊎_, inl, inr, _↔_}
 use Prim.Native.Nat.{ℕ, _<_}
 use native.Mathlib.Omega.{arith}
-use Rattle.places.specs.Sets.{below, only, difference, any, all, subset, lowest}
+use Rattle.sets.specs.Sets.{below, only, difference, any, all, subset, lowest}
 use lib.Dec.{eqb}
-use Rattle.places.proofs.Booleans.{clash, is-false, both-ways, or-cases, and-intro, and-left, and-right, not-true, not-intro, implies-elim, implies-intro}
-use Rattle.places.proofs.Tests.{all-elim, all-intro, subset-elim, subset-intro}
+use Rattle.sets.proofs.Booleans.{clash, is-false, both-ways, or-cases, and-intro, and-left, and-right, not-true, not-intro, implies-elim, implies-intro}
+use Rattle.sets.proofs.Tests.{all-elim, all-intro, subset-elim, subset-intro}
 use Rattle.histories.specs.declared.Kind.{Kind}
 use Rattle.histories.specs.declared.Kind.the-variants.{Full, Short}
 use Rattle.histories.specs.Histories.{Row, History, Before, heard, through, Accepted, lay, Fits, Last, LastInAll, LastInNone, Disagree}

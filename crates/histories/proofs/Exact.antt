@@ -6,9 +6,9 @@ use Prim.Native.Nat.{ℕ, _<_}
 use native.Mathlib.Omega.{arith}
 use lib.Dec.{eqb, ltb}
 use borrow.Author.Tests.{eqb-true, eq-eqb, ne-eqb, ltb-true, lt-ltb}
-use Rattle.places.specs.Sets.{nothing, below, only, with, difference, any, lowest}
-use Rattle.places.proofs.Booleans.{split, clash, is-false, is-true, and-intro, and-left, and-right, or-cases, or-left, or-right, not-true, minus-elim, minus-intro, eqb-self}
-use Rattle.places.proofs.Tests.{any-elim, any-intro, any-none, none-any, lowest-below, lowest-member}
+use Rattle.sets.specs.Sets.{nothing, below, only, with, difference, any, lowest}
+use Rattle.sets.proofs.Booleans.{split, clash, is-false, is-true, and-intro, and-left, and-right, or-cases, or-left, or-right, not-true, minus-elim, minus-intro, eqb-self}
+use Rattle.sets.proofs.Tests.{any-elim, any-intro, any-none, none-any, lowest-below, lowest-member}
 use Rattle.histories.specs.declared.Kind.{Kind}
 use Rattle.histories.specs.declared.Kind.the-variants.{Full, Short}
 use Rattle.histories.specs.Histories.{Row, History, Before, heard, through, IsHistory, Accepted, none, Fits, Last, LastInAll, LastInNone, Disagree, Decided}

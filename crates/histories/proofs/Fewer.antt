@@ -5,7 +5,7 @@ use mathlib.Core.Logic.{_⊎_, inl, inr}
 use Prim.Native.Nat.{ℕ}
 use lib.Dec.{eqb}
 use borrow.Author.Tests.{eqb-true, ne-eqb}
-use Rattle.places.proofs.Booleans.{clash, or-left, or-cases}
+use Rattle.sets.proofs.Booleans.{clash, or-left, or-cases}
 use Rattle.histories.specs.declared.Kind.{Kind}
 use Rattle.histories.specs.declared.Kind.the-variants.{Full}
 use Rattle.histories.specs.Histories.{Row, History, Before, Accepted, lay, Fits, LastInAll, LastInNone, Decided}

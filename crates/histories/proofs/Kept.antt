@@ -5,8 +5,8 @@ use mathlib.Core.Logic.{_⊎_, inl, inr}
 use Prim.Native.Nat.{ℕ, _<_}
 use lib.Dec.{eqb}
 use borrow.Author.Tests.{eqb-true}
-use Rattle.places.specs.Sets.{below, only, union, intersection, with, difference, any}
-use Rattle.places.proofs.Booleans.{clash, is-false, both-ways, and-intro, or-cases, or-left, or-right}
+use Rattle.sets.specs.Sets.{below, only, union, intersection, with, difference, any}
+use Rattle.sets.proofs.Booleans.{clash, is-false, both-ways, and-intro, or-cases, or-left, or-right}
 use Rattle.histories.specs.declared.Kind.{Kind}
 use Rattle.histories.specs.declared.Kind.the-variants.{Full, Short}
 use Rattle.histories.specs.Histories.{Row, History, Before, heard, through, Accepted, lay, Fits}

@@ -4,7 +4,7 @@ use mathlib.Core.Bool.{Bool, true, false, cond, _&&_, _||_, Bool·beq}
 use mathlib.Core.List.{List, [], _∷_}
 use Prim.Native.Nat.{ℕ, zero, suc, pred}
 use lib.Dec.{eqb}
-use Rattle.places.specs.Sets.{same}
+use Rattle.sets.specs.Sets.{same}
 use Rattle.histories.specs.declared.Kind.{Kind}
 use Rattle.histories.specs.declared.Kind.the-variants.{Full, Short}
 use Rattle.histories.specs.Histories.{Row, Accepted, none, lay}

@@ -3,7 +3,7 @@
 use mathlib.Core.Path.{_≡_}
 use mathlib.Core.Bool.{Bool, true, not, _&&_, _||_}
 use Prim.Native.Nat.{ℕ}
-use Rattle.places.specs.Sets.{below, only, difference, any, all, subset}
+use Rattle.sets.specs.Sets.{below, only, difference, any, all, subset}
 use Rattle.histories.specs.declared.Kind.{Kind}
 use Rattle.histories.specs.declared.Kind.the-variants.{Full, Short}
 use Rattle.histories.specs.Histories as now

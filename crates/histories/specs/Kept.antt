@@ -3,7 +3,7 @@
 use mathlib.Core.Bool.{Bool, cond, _&&_}
 use Prim.Native.Nat.{ℕ}
 use lib.Dec.{ltb}
-use Rattle.places.specs.Sets.{below, only, union, intersection, difference, any}
+use Rattle.sets.specs.Sets.{below, only, union, intersection, difference, any}
 use Rattle.histories.specs.Histories.{Row, Accepted}
 use Rattle.histories.specs.Rule.{before, fullBack, Answer, answerWith, openAnswer, noneOpen}
 

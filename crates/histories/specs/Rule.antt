@@ -2,7 +2,7 @@
 -- as they are computed from the accepted records of a roster of length n. That it is the meaning is proved in proofs/. Assumes nothing.
 use mathlib.Core.Bool.{Bool, true, false, not, cond, _&&_, _||_}
 use Prim.Native.Nat.{ℕ, zero, suc}
-use Rattle.places.specs.Sets.{only, below, difference, with, any, all, subset, same, count, lowest}
+use Rattle.sets.specs.Sets.{only, below, difference, with, any, all, subset, same, count, lowest}
 use Rattle.histories.specs.declared.Kind.{Kind}
 use Rattle.histories.specs.declared.Kind.the-variants.{Full, Short}
 use Rattle.histories.specs.Histories.{Row, History, Accepted, lay}

@@ -4,13 +4,13 @@ ghost use mathlib.Core.Path.{_≡_};
 ghost use mathlib.Core.List.{_++_};
 ghost use Prim.Native.Nat.{_+_, _≤_};
 ghost use lib.ListN.{length};
-ghost use Rattle.records.specs.Records.{writtenAt};
-ghost use Rattle.fronts.specs.Fronts.{front};
-ghost use Rattle.lines.specs.Lines.{ascii, decimal, line, recordLine, placeLine, wholeLine, noneLine};
-use records::Writing;
-use recovery::Asked;
-use replies::Reply;
-use rosters::Serial;
+ghost use Rattle.layouts.specs.Records.{writtenAt};
+ghost use Rattle.layouts.specs.Fronts.{front};
+ghost use Rattle.transcripts.specs.Lines.{ascii, decimal, line, recordLine, placeLine, wholeLine, noneLine};
+use answers::Reply;
+use calls::Asked;
+use layouts::Writing;
+use serials::Serial;
 
 // The line of the record with this number, from 1.
 pub fn put_record(out: &mut [u8], at: usize, number: u64, answer: Reply) -> Writing

@@ -5,10 +5,10 @@ use Prim.Native.Nat.{ℕ, _+_, _*_, _/_, _^_, _<_}
 use lib.Bits.{bitAnd}
 use lib.Dec.{eqb, ltb}
 use borrow.Author.Tests.{eqb-true, ltb-true}
-use Rattle.places.specs.Sets.{all}
-use Rattle.places.specs.PlaceSets.{bit}
-use Rattle.places.proofs.Tests.{all-elim}
-use Rattle.lists.specs.Lists.{joined}
+use Rattle.sets.specs.Sets.{all}
+use Rattle.sets.specs.PlaceSets.{bit}
+use Rattle.sets.proofs.Tests.{all-elim}
+use Rattle.answers.specs.Lists.{joined}
 
 -- copies of the digits, of each the one that is its byte's
 abbrev marks : ℕ → ℕ

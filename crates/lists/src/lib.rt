@@ -1,20 +1,14 @@
-// Listing the answers of all places, one byte each, by the parts of a recovery: no copy of the whole is needed. The definitions that the
-// contracts cite stand in specs/Lists.antt.
+// Listing the answers of all places, one byte each, by the parts of a recovery: no copy of the whole is needed.
 ghost use mathlib.Core.Path.{_≡_};
 ghost use mathlib.Core.Bool.{cond};
 ghost use Prim.Native.Nat.{_*_, _^_, _/_, _%_, _≤_, _<_};
 ghost use lib.ListN.{length};
-ghost use Rattle.places.specs.PlaceSets.{bit, has};
+ghost use Rattle.sets.specs.PlaceSets.{bit, has};
 ghost use Rattle.answers.specs.Views.{size, acceptedIn};
-ghost use Rattle.lists.specs.Lists.{laid, listedIn, byteBy, joined};
-use places::PlaceSet;
+ghost use Rattle.answers.specs.Lists.{laid, listedIn, byteBy, joined};
+use answers::Listing;
 use rows::Rows;
-
-// The answers are laid down, or the buffer is refused by a number.
-pub enum Listing {
-    Laid,
-    Refused(u8),
-}
+use sets::PlaceSet;
 
 // Eight digits of a number below 256, each as a byte of its own, the lowest first.
 fn spread(digits: u64) -> u64
@@ -100,12 +94,12 @@ pub fn list(
     ensures { λ s. ⌜ s ≡ listedIn (size count) (acceptedIn count (has returned) (has full) (now (rows .entry))) (has mourned) (has earlier) (now (out .entry)) .answer ⌝ }
     ensures { λ s. ⌜ now (out .exit) ≡ listedIn (size count) (acceptedIn count (has returned) (has full) (now (rows .entry))) (has mourned) (has earlier) (now (out .entry)) .buffer ⌝ }
 {
-    let n = answers::size(count);
+    let n = standings::size(count);
     if out.len() < n {
         return Listing::Refused(13);
     }
-    let open = answers::open_places(rows, returned, full, mourned, earlier, count);
-    let unmourned = answers::unmourned(mourned, count);
+    let open = undecided::open_places(rows, returned, full, mourned, earlier, count);
+    let unmourned = standings::unmourned(mourned, count);
     let last = places::difference(unmourned, open);
     lay(out, n, last, open);
     Listing::Laid

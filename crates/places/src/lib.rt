@@ -1,26 +1,14 @@
-// Places of a roster, and sets of the places 0 to 127. Contracts speak of a set by its members (`has`): above
-// this crate only `rows`, `lists`, `games` and the crates for C, for which a set is bytes, a number or words, look at the two words.
+// Sets of the places 0 to 127. Contracts speak of a set by its members (`has`): above this crate only `row_bytes`, `lists`, `minimax` and the
+// crates for C, for which a set is bytes, a number or words, look at the two words.
 ghost use mathlib.Core.Path.{_≡_};
 ghost use mathlib.Core.Bool.{not};
 ghost use Prim.Native.Nat.{ℕ, _<_};
 ghost use lib.Dec.{ltb};
-ghost use Rattle.places.specs.Sets as sets;
-ghost use Rattle.places.specs.PlaceSets.{bit, has, kept, found};
-
-// A position in a roster, from 0 (document 01: a place).
-pub struct Place(pub usize);
-
-// A set of places, by value: the places 0 to 63 in `low`, 64 to 127 in `high`. A place of 128 or more is in no set.
-pub struct PlaceSet {
-    pub low: u64,
-    pub high: u64,
-}
-
-// A place, or that there is none.
-pub enum Found {
-    At(Place),
-    Nothing,
-}
+ghost use Rattle.sets.specs.Sets as sets;
+ghost use Rattle.sets.specs.PlaceSets.{bit, has, kept, found};
+use sets::Found;
+use sets::Place;
+use sets::PlaceSet;
 
 // The set with no member.
 pub fn empty() -> PlaceSet

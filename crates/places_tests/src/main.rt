@@ -1,10 +1,10 @@
 // A client of `places`: it walks the members of a set, proved from the laws alone, and prints some sets.
 ghost use mathlib.Core.Path.{_≡_};
-ghost use Rattle.places.specs.Sets as sets;
-ghost use Rattle.places.specs.PlaceSets.{has};
-use places::Found;
-use places::Place;
-use places::PlaceSet;
+ghost use Rattle.sets.specs.Sets as sets;
+ghost use Rattle.sets.specs.PlaceSets.{has};
+use sets::Found;
+use sets::Place;
+use sets::PlaceSet;
 
 // How many members, one after another.
 fn tally(s: PlaceSet) -> usize

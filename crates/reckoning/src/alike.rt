@@ -8,8 +8,8 @@ use crate::outcomes;
 use crate::outcomes::REPEATED;
 use crate::piles;
 use crate::tallies::Tally;
-use places::PlaceSet;
 use recovery::Recovery;
+use sets::PlaceSet;
 
 fn same_set(a: PlaceSet, b: PlaceSet) -> bool {
     if a.low != b.low {

@@ -10,8 +10,8 @@ use crate::parts;
 use crate::piles;
 use crate::stored;
 use crate::tallies::Tally;
-use places::Place;
 use recovery::Recovery;
+use sets::Place;
 
 // Neither buffer was touched.
 fn untouched(c: Case, t: Tally, place: usize, first: &[u8; 80], second: &[u8; 80]) -> Tally {

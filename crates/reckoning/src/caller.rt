@@ -12,8 +12,8 @@ use crate::runs;
 use crate::stored;
 use crate::tallies;
 use crate::tallies::Tally;
-use places::Place;
 use recovery::Recovery;
+use sets::Place;
 
 const LARGEST: usize = 18446744073709551615;
 

@@ -14,7 +14,7 @@ use crate::stored;
 use crate::tallies;
 use crate::tallies::Tally;
 use recovery::Recovery;
-use rosters::Serial;
+use serials::Serial;
 
 const ALL: u64 = 18446744073709551615;
 

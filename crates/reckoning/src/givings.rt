@@ -10,9 +10,9 @@ use crate::swaps::Boards;
 use crate::swaps::Few;
 use crate::tallies;
 use crate::tallies::Tally;
-use places::Place;
 use recovery::Recovery;
-use rosters::Serial;
+use serials::Serial;
+use sets::Place;
 
 // A list of givings: a number in base 15, the first giving lowest; a digit is 5 times the place and one of the five serials.
 struct Case {

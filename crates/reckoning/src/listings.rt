@@ -8,7 +8,7 @@ use crate::outcomes::NOT_LAST;
 use crate::outcomes::OPEN;
 use crate::parts;
 use crate::tallies::Tally;
-use lists::Listing;
+use answers::Listing;
 use recovery::Recovery;
 
 // What the buffer has before.

@@ -1,16 +1,16 @@
 // Every outcome as one number: a refusal is its own number, the others stand above all sets, counts and positions that occur.
 use crate::say;
-use fetches::Fetching;
+use answers::Fetching;
+use answers::Giving;
+use answers::Reply;
+use answers::Showing;
 use games::Played;
-use groups::Giving;
-use places::PlaceSet;
 use records::Writing;
 use recovery::Asked;
 use recovery::Checked;
 use recovery::Opening;
-use replies::Reply;
-use rosters::Finding;
-use shows::Showing;
+use serials::Finding;
+use sets::PlaceSet;
 
 pub const OPENED: u64 = 1000001;
 

@@ -10,9 +10,9 @@ use crate::parts;
 use crate::stored;
 use crate::tallies::Tally;
 use crate::told;
-use places::Place;
 use recovery::Offered;
 use recovery::Recovery;
+use sets::Place;
 
 pub struct Group {
     pub recovery: Recovery,

@@ -138,7 +138,7 @@ fn play(list: &[u32], table: &[u8; 4913], c: Case, t: Tally) -> Tally {
     let expected = most as u64;
     let blocking = matrices::size(matrices::blocking(list, c.n, pile)) as u64;
     let told = number(outcomes::fetching(recovery::to_fetch(r)));
-    let came = outcomes::played(games::play(r));
+    let came = outcomes::played(minimax::play(r));
     let t = cases::held(t, c, b"play", 0, expected, came);
     let t = cases::held(t, c, b"blocking beside play", 0, expected, blocking);
     cases::held(t, c, b"to fetch beside play", 0, expected, told)

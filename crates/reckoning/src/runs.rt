@@ -7,9 +7,9 @@ use crate::say;
 use crate::stored;
 use crate::tallies;
 use crate::tallies::Tally;
-use places::Place;
 use recovery::Recovery;
-use rosters::Serial;
+use serials::Serial;
+use sets::Place;
 
 // The kind is that of the records that are offered and written from here on.
 pub struct Run {
@@ -274,7 +274,7 @@ pub fn told(g: Run, fetches: u64, next: u64) -> Run {
 // Plays the game out.
 pub fn play(g: Run, expected: u64) -> Run {
     let recovery = g.recovery;
-    let got = games::play(recovery);
+    let got = minimax::play(recovery);
     let t = held(g, b"play", 0, 0, expected, outcomes::played(got));
     after(g, t)
 }

@@ -13,10 +13,10 @@ use crate::say;
 use crate::stored;
 use crate::tallies;
 use crate::tallies::Tally;
-use places::Place;
 use recovery::Offered;
 use recovery::Recovery;
-use rosters::Serial;
+use serials::Serial;
+use sets::Place;
 
 // A record: its kind, its place, its mourned set, whether its own serial is the second one, and which of the mourned ones are.
 struct Mixed {

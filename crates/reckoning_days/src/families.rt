@@ -1,9 +1,9 @@
 // The lists, one after another.
 ghost use Prim.Native.Nat.{_≤_, _<_};
-use crate::days;
-use crate::days::Pair;
 use crate::lists;
 use crate::lists::Case;
+use crate::pairs;
+use crate::pairs::Pair;
 use crate::parts;
 use crate::plain;
 use crate::plain::Plain;
@@ -11,7 +11,7 @@ use crate::returns;
 use crate::stored;
 use crate::tallies;
 use crate::tallies::Tally;
-use executions::Day;
+use days::Day;
 use recovery::Recovery;
 
 // Whether a list ends at its first refusal, or goes on after it.
@@ -22,7 +22,7 @@ enum Trial {
 
 fn day(kind: u8, n: usize) -> Day {
     let serials = stored::serials();
-    let got = executions::open(kind, parts::of_three(&serials, n));
+    let got = days::open(kind, parts::of_three(&serials, n));
     got.day
 }
 
@@ -34,8 +34,8 @@ fn group(n: usize) -> Recovery {
 
 fn try_list(d: Day, c: Case, trial: Trial, t: Tally) -> Tally {
     match trial {
-        Trial::Played => days::writes(c, days::play(d, c, t)),
-        Trial::Happened => days::writes(c, days::happens(d, c, t)),
+        Trial::Played => pairs::writes(c, pairs::play(d, c, t)),
+        Trial::Happened => pairs::writes(c, pairs::happens(d, c, t)),
     }
 }
 
@@ -106,7 +106,7 @@ fn stride(c: Case, d: Plain) -> u64
 
 // The records of every place, and where all have stopped, all of them brought back.
 fn finish(c: Case, g: Pair, r: Recovery) -> Tally {
-    let t = days::writes(c, g);
+    let t = pairs::writes(c, g);
     let plain = g.plain;
     if !plain::all_stopped(plain) {
         return t;
@@ -125,7 +125,7 @@ fn allowed(d: Day, r: Recovery, kind: u8, n: usize, length: usize, tally: Tally)
             length,
             list,
         };
-        let g = days::play(d, c, t);
+        let g = pairs::play(d, c, t);
         let plain = g.plain;
         let next = finish(c, g, r);
         t = next;

@@ -5,14 +5,14 @@ use crate::parts;
 use crate::stored;
 use crate::tallies;
 use crate::tallies::Tally;
-use executions::Day;
-use executions::Event;
-use places::Place;
+use days::Day;
+use days::Event;
+use sets::Place;
 
 const LARGEST: usize = 18446744073709551615;
 
 fn open(t: Tally, name: &[u8], kind: u8, list: &[u32], expected: u64) -> Tally {
-    let got = executions::open(kind, list);
+    let got = days::open(kind, list);
     let answer = got.answer;
     tallies::named(t, name, expected, outcomes::opening(answer))
 }
@@ -78,7 +78,7 @@ fn happen(t: Tally, d: Day, name: &[u8], kind: u8, p: usize, q: usize, expected:
         place: Place(p),
         other: Place(q),
     };
-    let got = executions::happen(d, e);
+    let got = days::happen(d, e);
     tallies::named(t, name, expected, got.refusal as u64)
 }
 
@@ -93,7 +93,7 @@ fn write(
     expected: u64,
 ) -> Tally {
     let mut out = [0xaau8; 64];
-    let got = executions::write(d, Place(place), parts::lent(&mut out, length), at);
+    let got = days::write(d, Place(place), parts::lent(&mut out, length), at);
     let came = outcomes::writing(got);
     let t = tallies::named(tally, name, expected, came);
     if 15 < came {
@@ -105,7 +105,7 @@ fn write(
 
 // A day whose opening was refused has no places.
 fn of_none(t: Tally) -> Tally {
-    let got = executions::open(0, &[7, 8]);
+    let got = days::open(0, &[7, 8]);
     let d = got.day;
     let t = happen(t, d, b"no day, stop 0", 1, 0, 0, 12);
     let t = happen(t, d, b"no day, hear 0 1", 2, 0, 1, 12);
@@ -151,14 +151,14 @@ fn of_two(t: Tally, d: Day) -> Tally {
 
 // A day of two on which place 0 has stopped.
 fn stopped(kind: u8) -> Day {
-    let got = executions::open(kind, &[7, 8]);
+    let got = days::open(kind, &[7, 8]);
     let e = Event {
         kind: 1,
         place: Place(0),
         other: Place(9),
     };
     let d = got.day;
-    let next = executions::happen(d, e);
+    let next = days::happen(d, e);
     next.day
 }
 

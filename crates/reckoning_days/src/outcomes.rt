@@ -1,9 +1,9 @@
 // Every outcome as one number: a refusal is its own number, the others stand above all counts and positions that occur.
 use crate::say;
-use executions::Opening;
+use answers::Reply;
+use days::Opening;
 use records::Writing;
 use recovery::Asked;
-use replies::Reply;
 
 pub const OPENED: u64 = 1000001;
 

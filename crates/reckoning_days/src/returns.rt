@@ -1,18 +1,18 @@
 // The records of a day on which all have stopped, brought back in every order.
 ghost use Prim.Native.Nat.{_≤_};
-use crate::days::Pair;
 use crate::lists;
 use crate::lists::Case;
 use crate::outcomes;
+use crate::pairs::Pair;
 use crate::parts;
 use crate::plain;
 use crate::plain::Plain;
 use crate::tallies::Tally;
-use executions::Day;
-use places::Place;
+use days::Day;
 use records::Writing;
 use recovery::Offered;
 use recovery::Recovery;
+use sets::Place;
 
 struct Back {
     recovery: Recovery,
@@ -50,7 +50,7 @@ fn end(got: Writing) -> usize {
 // Offers the record that the day writes for a place.
 fn offer(d: Day, r: Recovery, place: usize) -> Offered {
     let mut out = [0u8; 64];
-    let got = executions::write(d, Place(place), &mut out, 0);
+    let got = days::write(d, Place(place), &mut out, 0);
     recovery::offer(r, parts::of_buffer(&out, end(got)))
 }
 

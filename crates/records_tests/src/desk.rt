@@ -5,8 +5,8 @@ use crate::reading;
 use crate::say;
 use crate::streams;
 use histories::Kind;
-use places::Place;
 use records::Sight;
+use sets::Place;
 
 // For the group of 1 and 2 whose second serials are 8 and 9.
 pub fn seen(name: &[u8], bytes: &[u8]) {

@@ -1,8 +1,8 @@
 // Lists of serials: what a recovery or a day opened with one meets, and where a serial stands.
 ghost use Prim.Native.Nat.{_≤_};
 use crate::say;
-use rosters::Finding;
-use rosters::Serial;
+use serials::Finding;
+use serials::Serial;
 
 // The list x, 2x, 3x and so on.
 pub fn fill(list: &mut [u32], x: u32) {
@@ -19,7 +19,7 @@ pub fn fill(list: &mut [u32], x: u32) {
 fn look_up(list: &[u32], from: usize, x: u32) -> Finding {
     let zero = [0u32; 1];
     let none = &zero[..0];
-    rosters::look_up(list, from, none, none, Serial(x))
+    lookups::look_up(list, from, none, none, Serial(x))
 }
 
 // 1 where the place was found by its first serial, 0 elsewhere.

@@ -1,13 +1,13 @@
 // One printed line for each case: its name, and the answer that it got.
 use histories::Kind;
 use libc::STDOUT_FILENO;
-use places::Place;
-use places::PlaceSet;
 use records::Reading;
 use records::Sight;
 use records::Writing;
-use rosters::Finding;
-use rosters::Listed;
+use serials::Finding;
+use serials::Listed;
+use sets::Place;
+use sets::PlaceSet;
 
 pub fn text(words: &[u8]) {
     io::write_all(STDOUT_FILENO, words);

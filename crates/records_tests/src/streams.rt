@@ -4,8 +4,8 @@ use crate::lists;
 use crate::reading;
 use crate::say;
 use histories::Kind;
-use places::Place;
 use records::Reading;
+use sets::Place;
 
 // 1 where the reading was refused by a number, 0 elsewhere.
 pub fn one_if(got: Reading, fault: u8) -> usize

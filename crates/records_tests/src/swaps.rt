@@ -2,8 +2,8 @@
 use crate::lists;
 use crate::say;
 use histories::Kind;
-use places::Place;
-use rosters::Serial;
+use serials::Serial;
+use sets::Place;
 
 // Reads two records of the roster 1 2 for a group: one with the own serial 8, and one of 1 that mourns 9.
 fn both(name: &[u8], firsts: &[u32], seconds: &[u32]) {
@@ -161,7 +161,7 @@ fn sought(name: &[u8], roster: &[u32], from: usize, x: u32) {
     let seconds = [70u32, 0, 120];
     say::found(
         name,
-        rosters::look_up(roster, from, &firsts, &seconds, Serial(x)),
+        lookups::look_up(roster, from, &firsts, &seconds, Serial(x)),
     );
 }
 

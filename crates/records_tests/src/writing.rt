@@ -3,7 +3,7 @@ ghost use Prim.Native.Nat.{_≤_};
 use crate::reading;
 use crate::say;
 use histories::Kind;
-use places::Place;
+use sets::Place;
 
 // Whether two lists of bytes are the same.
 fn same(a: &[u8], b: &[u8]) -> bool {

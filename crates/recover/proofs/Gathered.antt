@@ -6,19 +6,19 @@ use Prim.Native.Nat.{ℕ, _+_, _<_, _≤_}
 use native.Mathlib.Omega.{arith}
 use lib.ListN.{length, getD, length-append}
 use borrow.Author.Tests.{le-leb, ne-eqb}
-use Rattle.records.specs.declared.Writing.{Writing}
-use Rattle.records.specs.declared.Writing.the-variants as W
-use Rattle.records.specs.Records.{writtenAt}
-use Rattle.replies.specs.declared.Reply.{Reply}
-use Rattle.replies.specs.declared.Reply.the-variants as O
-use Rattle.recovery.specs.declared.Asked.{Asked}
-use Rattle.recovery.specs.declared.Asked.the-variants as A
-use Rattle.recovery.specs.declared.Recovery.{Recovery}
-use Rattle.recovery.specs.Contracts.{sizeOf, asked, listedOf, AskedByte, not-byte, last-byte, open-byte}
-use Rattle.recovery.proofs.Keeps.{size-few}
-use Rattle.recovery.proofs.Lists.{each-as-asked}
-use Rattle.lines.specs.Lines.{ascii, offerWords, recordLine, answerWords, placeLine}
-use Rattle.lines.proofs.Laws.{length-decimal, length-line}
+use Rattle.layouts.specs.declared.Writing.{Writing}
+use Rattle.layouts.specs.declared.Writing.the-variants as W
+use Rattle.layouts.specs.Records.{writtenAt}
+use Rattle.answers.specs.declared.Reply.{Reply}
+use Rattle.answers.specs.declared.Reply.the-variants as O
+use Rattle.calls.specs.declared.Asked.{Asked}
+use Rattle.calls.specs.declared.Asked.the-variants as A
+use Rattle.calls.specs.declared.Recovery.{Recovery}
+use Rattle.calls.specs.Contracts.{sizeOf, asked, listedOf, AskedByte, not-byte, last-byte, open-byte}
+use Rattle.calls.proofs.Keeps.{size-few}
+use Rattle.calls.proofs.Lists.{each-as-asked}
+use Rattle.transcripts.specs.Lines.{ascii, offerWords, recordLine, answerWords, placeLine}
+use Rattle.transcripts.proofs.Laws.{length-decimal, length-line}
 use Rattle.recover.specs.Gathered.{answerIn, endOf, Said}
 
 -- 64 bytes hold a line, whatever its numbers are

@@ -6,18 +6,18 @@ use native.Mathlib.Omega.{arith}
 use lib.ListN.{length, take, drop, length-append, length-drop}
 use lib.Seq.{take-at}
 use borrow.Author.Tests.{le-leb}
-use Rattle.places.specs.PlaceSets.{packed}
-use Rattle.rosters.specs.Rosters.{IsRoster, placeOf, holds, listed}
-use Rattle.rosters.proofs.Laws.{listed-sound}
-use Rattle.records.specs.declared.Record.{Record}
-use Rattle.records.specs.declared.Reading.the-variants.{Read}
-use Rattle.rosters.specs.Seconds.{itself}
-use Rattle.records.specs.Layout.{Parsed, got, refused, Stored, stored}
-use Rattle.records.specs.Records.{readingOf, reading, serials, rosterThere, copiable, copied}
-use Rattle.records.proofs.Layouts.{length-serials, stored-back}
-use Rattle.records.proofs.Trips.{serials-read, roster-within}
-use Rattle.recovery.specs.declared.Opened.{Opened}
-use Rattle.recovery.specs.Contracts.{fresh, unopened, openedAs, opened}
+use Rattle.sets.specs.PlaceSets.{packed}
+use Rattle.serials.specs.Rosters.{IsRoster, placeOf, holds, listed}
+use Rattle.serials.proofs.Rosters.{listed-sound}
+use Rattle.layouts.specs.declared.Record.{Record}
+use Rattle.layouts.specs.declared.Reading.the-variants.{Read}
+use Rattle.serials.specs.Seconds.{itself}
+use Rattle.layouts.specs.Layout.{Parsed, got, refused, Stored, stored}
+use Rattle.layouts.specs.Records.{readingOf, reading, serials, rosterThere, copiable, copied}
+use Rattle.layouts.proofs.Layouts.{length-serials, stored-back}
+use Rattle.layouts.proofs.Trips.{serials-read, roster-within}
+use Rattle.calls.specs.declared.Opened.{Opened}
+use Rattle.calls.specs.Contracts.{fresh, unopened, openedAs, opened}
 
 -- what was read, in the bytes from a position on
 pub record ReadAt (b : List ℕ) (at : ℕ) (x : Record) : Type 0 where

@@ -8,15 +8,15 @@ use lib.ListN.{length, take, drop, length-append, length-drop}
 use lib.Seq.{length-take-le, drop-append-le}
 use lib.Dec.{eqb, leb}
 use borrow.Author.Tests.{leb-true}
-use Rattle.places.specs.Sets.{Places, nothing, with}
-use Rattle.places.specs.PlaceSets.{packed}
-use Rattle.rosters.specs.Rosters.{holds}
-use Rattle.rosters.specs.Seconds.{itself}
-use Rattle.records.specs.Layout.{Parsed, got, refused, then, check, byte, wordAt, serial, knownKind, kindOf, kindSection, rosterSerials, rosterSection, isOn, placeOn, headSection, mournedSerials, mournedSection, Stored, stored}
-use Rattle.records.specs.declared.Reading.the-variants.{Read}
-use Rattle.records.specs.Records.{readingOf, reading}
-use Rattle.records.proofs.Layouts.{head-back}
-use Rattle.records.proofs.Follows.{onto, then-onto, byte-onto, serial-four, serial-onto}
+use Rattle.sets.specs.Sets.{Places, nothing, with}
+use Rattle.sets.specs.PlaceSets.{packed}
+use Rattle.serials.specs.Rosters.{holds}
+use Rattle.serials.specs.Seconds.{itself}
+use Rattle.layouts.specs.Layout.{Parsed, got, refused, then, check, byte, wordAt, serial, knownKind, kindOf, kindSection, rosterSerials, rosterSection, isOn, placeOn, headSection, mournedSerials, mournedSection, Stored, stored}
+use Rattle.layouts.specs.declared.Reading.the-variants.{Read}
+use Rattle.layouts.specs.Records.{readingOf, reading}
+use Rattle.layouts.proofs.Layouts.{head-back}
+use Rattle.layouts.proofs.Follows.{onto, then-onto, byte-onto, serial-four, serial-onto}
 use Rattle.recover.specs.declared.window.Window.{Window}
 use Rattle.recover.specs.Windows.{ahead, Inside, Enough}
 use Rattle.recover.proofs.Windows.{length-ahead}

@@ -6,11 +6,11 @@ use mathlib.Core.List.{List}
 use Prim.Native.Nat.{ℕ, _+_, _≤_}
 use lib.ListN.{length}
 use lib.Dec.{eqb}
-use Rattle.records.specs.declared.Writing.{Writing}
-use Rattle.records.specs.declared.Writing.the-variants as W
-use Rattle.records.specs.Records.{putAt}
-use Rattle.recovery.specs.declared.Asked.{Asked}
-use Rattle.recovery.specs.declared.Asked.the-variants as A
+use Rattle.layouts.specs.declared.Writing.{Writing}
+use Rattle.layouts.specs.declared.Writing.the-variants as W
+use Rattle.layouts.specs.Records.{putAt}
+use Rattle.calls.specs.declared.Asked.{Asked}
+use Rattle.calls.specs.declared.Asked.the-variants as A
 
 -- what asking says, by the byte in a list of all places: document 02, [4]
 unfoldable pub answerIn : ℕ → Asked

@@ -4,8 +4,8 @@ use mathlib.Core.List.{List, _++_}
 use Prim.Native.Nat.{ℕ, _≤_}
 use lib.ListN.{length, take}
 use lib.Seq.{slice}
-use Rattle.rosters.specs.Seconds.{itself}
-use Rattle.records.specs.Records.{reading}
+use Rattle.serials.specs.Seconds.{itself}
+use Rattle.layouts.specs.Records.{reading}
 use Rattle.recover.specs.declared.window.Window.{Window}
 
 -- the bytes of a buffer that were read and not passed yet

@@ -2,14 +2,14 @@
 ghost use mathlib.Core.Path.{_≡_};
 ghost use Prim.Native.Nat.{_≤_, _<_};
 ghost use lib.ListN.{length, getD};
-ghost use Rattle.recovery.specs.Contracts.{AskedByte};
-ghost use Rattle.recovery.specs.declared.Asked as declared;
-ghost use Rattle.lines.specs.Lines.{placeLine};
+ghost use Rattle.calls.specs.Contracts.{AskedByte};
+ghost use Rattle.calls.specs.declared.Asked as declared;
+ghost use Rattle.transcripts.specs.Lines.{placeLine};
 ghost use Rattle.recover.specs.Gathered.{answerIn, Said};
 use crate::output;
 use recovery::Asked;
 use recovery::Recovery;
-use rosters::Serial;
+use serials::Serial;
 
 // What asking says of a place, by its byte in the list.
 fn answer_of(byte: u8) -> Asked
@@ -51,7 +51,7 @@ fn list_places(out: &mut [u8], used: usize, r: Recovery) -> usize
     let mut listed = [0u8; 128];
     recovery::list(r, &mut listed);
     let serials = r.serials;
-    let count = answers::size(r.count);
+    let count = standings::size(r.count);
     let mut end = used;
     let mut p = 0;
     while p < count {

@@ -3,16 +3,16 @@ ghost use mathlib.Core.Path.{_≡_};
 ghost use mathlib.Core.List.{[]};
 ghost use Prim.Native.Nat.{_≤_};
 ghost use lib.ListN.{length, drop};
-ghost use Rattle.rosters.specs.Seconds.{itself};
-ghost use Rattle.records.specs.declared.Reading.the-variants as reading;
-ghost use Rattle.records.specs.Records.{reading, serials};
-ghost use Rattle.recovery.specs.Contracts.{fresh};
+ghost use Rattle.serials.specs.Seconds.{itself};
+ghost use Rattle.layouts.specs.declared.Reading.the-variants as reading;
+ghost use Rattle.layouts.specs.Records.{reading, serials};
+ghost use Rattle.calls.specs.Contracts.{fresh};
 use crate::output;
 use crate::window;
+use answers::Reply;
 use records::Reading;
 use records::Record;
 use recovery::Recovery;
-use replies::Reply;
 
 // What the input leaves: its recovery, of no places where none was opened, and how much of the output is gathered.
 pub struct Finished {

@@ -3,13 +3,13 @@ ghost use mathlib.Core.Path.{_≡_};
 ghost use mathlib.Core.Logic.{_⊎_};
 ghost use Prim.Native.Nat.{_+_, _≤_};
 ghost use lib.ListN.{length};
-ghost use Rattle.lines.specs.Lines.{recordLine, placeLine, wholeLine, noneLine};
+ghost use Rattle.transcripts.specs.Lines.{recordLine, placeLine, wholeLine, noneLine};
 ghost use Rattle.recover.specs.Gathered.{endOf, Said};
+use answers::Reply;
 use libc::STDOUT_FILENO;
 use records::Writing;
 use recovery::Asked;
-use replies::Reply;
-use rosters::Serial;
+use serials::Serial;
 
 // Writes out what is gathered.
 pub(crate) fn flush(out: &[u8], used: usize)

@@ -1,25 +1,17 @@
 // What a group replies to a record that was read, judged by the parts of a recovery: no copy of the whole is needed.
 ghost use mathlib.Core.Path.{_≡_};
 ghost use mathlib.Core.Bool.{true, cond, _&&_};
-ghost use Prim.Native.Nat.{_≤_};
-ghost use lib.ListN.{length, take};
-ghost use Rattle.places.specs.Sets as sets;
-ghost use Rattle.places.specs.PlaceSets.{has};
+ghost use Rattle.sets.specs.Sets as sets;
+ghost use Rattle.sets.specs.PlaceSets.{has};
 ghost use Rattle.answers.specs.Views.{size, acceptedIn};
-ghost use Rattle.replies.specs.declared.Reply.the-variants as reply;
-ghost use Rattle.replies.specs.Replies.{sameKind, entering, judgement};
+ghost use Rattle.answers.specs.declared.Reply.the-variants as reply;
+ghost use Rattle.answers.specs.Replies.{sameKind, entering, judgement};
+use answers::Reply;
 use histories::Kind;
-use places::Place;
-use places::PlaceSet;
-use records::Record;
+use layouts::Record;
 use rows::Rows;
-
-// A record is taken, or it is the same one again, or it is refused by a number.
-pub enum Reply {
-    Taken,
-    Repeated,
-    Refused(u8),
-}
+use sets::Place;
+use sets::PlaceSet;
 
 // Whether two kinds are the same.
 fn same_kind(a: Kind, b: Kind) -> bool
@@ -50,12 +42,12 @@ fn again(
     requires { ⌜ acceptedIn count (has returned) (has full) (now rows) .returned (own .0) ≡ true ⌝ }
     ensures { λ s. ⌜ s ≡ cond (sameKind kind (acceptedIn count (has returned) (has full) (now (rows .entry)) .kind (own .0)) && sets.same (size count) (has mourned) (acceptedIn count (has returned) (has full) (now (rows .entry)) .row (own .0))) reply.Repeated (reply.Refused 10) ⌝ }
 {
-    let first = answers::kind_of(full, own);
+    let first = standings::kind_of(full, own);
     if !same_kind(kind, first) {
         return Reply::Refused(10);
     }
     let all = places::below(count);
-    let row = answers::recorded(rows, returned, count, own);
+    let row = standings::recorded(rows, returned, count, own);
     let named = places::intersection(all, mourned);
     if places::same(named, row) {
         return Reply::Repeated;
@@ -80,7 +72,7 @@ fn enter(
     if places::contains(back, own) {
         return again(kind, rows, returned, full, count, own, mourned);
     }
-    if answers::accepts(kind, rows, returned, full, count, own, mourned) {
+    if acceptance::accepts(kind, rows, returned, full, count, own, mourned) {
         return Reply::Taken;
     }
     Reply::Refused(11)
@@ -101,7 +93,7 @@ pub fn judge<'a>(
     let n = groups::roster_length(count, serials);
     let at = x.roster;
     let m = x.count;
-    if !records::roster_is(bytes, at, m, &serials[..n]) {
+    if !roster_bytes::roster_is(bytes, at, m, &serials[..n]) {
         return Reply::Refused(9);
     }
     let kind = x.kind;

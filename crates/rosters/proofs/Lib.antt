@@ -1,6 +1,2 @@
 -- `Cases` computes document 02's example; `Laws`, `Pads` and `Seconds` are what a crate above cites; `Marks` is for `first_fault`.
-pub mod Cases
-pub mod Laws
-pub mod Pads
-pub mod Seconds
 pub mod Marks

@@ -14,11 +14,11 @@ use lib.ListN.{length, getD, set, take, drop, length-append, length-take, length
 use lib.Seq.{sets, sets-eq, take-all, take-at, drop-at, drop-drop, drop-length, getD-drop, paste-suc}
 use borrow.Author.Tests.{ltb-true, ltb-false, lt-ltb, le-leb, lt-leb}
 use borrow.Rule.Slice.PartMut.{putMid, midOf, postOf, post-is}
-use Rattle.places.specs.Sets.{Places, nothing}
-use Rattle.places.specs.PlaceSets.{bit, has, word}
-use Rattle.places.specs.declared.PlaceSet.{PlaceSet}
-use Rattle.places.proofs.Digits.{below-two, bit-low, bit-next}
-use Rattle.places.proofs.Words.{has-low, has-high, has-upper, has-past}
+use Rattle.sets.specs.Sets.{Places, nothing}
+use Rattle.sets.specs.PlaceSets.{bit, has, word}
+use Rattle.sets.specs.declared.PlaceSet.{PlaceSet}
+use Rattle.sets.proofs.Digits.{below-two, bit-low, bit-next}
+use Rattle.sets.proofs.Words.{has-low, has-high, has-upper, has-past}
 use Rattle.rows.specs.Rows.{bytesFrom, rowBytes, putRow, rowIn}
 
 -- ---- digits

@@ -10,12 +10,12 @@ use lib.Dec.{eqb, ltb, leb}
 use lib.ListN.{length, getD, take, drop, replicate, length-append, length-drop, length-take, length-replicate, List·getD-append}
 use lib.Seq.{length-take-le, take-at, drop-at, drop-drop, take-add, getD-take, getD-drop, getD-append-add, ext-getD}
 use borrow.Author.Tests.{eq-eqb, ne-eqb, ltb-true, ltb-false, leb-true, lt-ltb, le-leb}
-use Rattle.places.specs.Sets.{Places, nothing}
-use Rattle.places.specs.PlaceSets.{bit, has, kept, word, Words}
-use Rattle.places.specs.declared.PlaceSet.{PlaceSet}
-use Rattle.places.proofs.Booleans.{and-left, and-right}
-use Rattle.places.proofs.Digits.{bit-zero, bit-word}
-use Rattle.places.proofs.Laws.{kept-all, kept-has, has-packed, packed-is}
+use Rattle.sets.specs.Sets.{Places, nothing}
+use Rattle.sets.specs.PlaceSets.{bit, has, kept, word, Words}
+use Rattle.sets.specs.declared.PlaceSet.{PlaceSet}
+use Rattle.sets.proofs.Booleans.{and-left, and-right}
+use Rattle.sets.proofs.Digits.{bit-zero, bit-word}
+use Rattle.sets.proofs.Laws.{kept-all, kept-has, has-packed, packed-is}
 use Rattle.rows.specs.Rows.{noRows, rowAt, rowsOf, withRow, bytesFrom, rowBytes, putRow, rowIn, historyIn, rowsFrom, laid}
 use Rattle.rows.proofs.Bytes.{length-bytes, word-rest, row-out, put-misfits}
 

@@ -8,9 +8,9 @@ use lib.Dec.{eqb}
 use lib.ListN.{length, getD, drop, length-append}
 use lib.Seq.{take-all, drop-at}
 use borrow.Author.Tests.{eq-eqb, ne-eqb, lt-ltb}
-use Rattle.places.specs.Sets.{Places, nothing}
-use Rattle.places.specs.PlaceSets.{has, kept, word, packed}
-use Rattle.places.proofs.Laws.{has-packed}
+use Rattle.sets.specs.Sets.{Places, nothing}
+use Rattle.sets.specs.PlaceSets.{has, kept, word, packed}
+use Rattle.sets.proofs.Laws.{has-packed}
 use Rattle.rows.specs.Rows.{bytesFrom, rowBytes, rowIn, rowsFrom, putRow, noRows, rowsOf, withRow, tableOf}
 use Rattle.rows.proofs.Bytes.{bytes-same}
 use Rattle.rows.proofs.Laws.{row-length, rows-length, rows-in, rows-cut, rows-bytes, rows-past, put-behind}

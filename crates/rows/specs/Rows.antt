@@ -4,9 +4,9 @@ use mathlib.Core.List.{List, [], _∷_, _++_}
 use Prim.Native.Nat.{ℕ, zero, suc, _+_, _*_, _/_, _%_}
 use lib.ListN.{length, getD, take, drop, replicate}
 use lib.Dec.{leb, ltb}
-use Rattle.places.specs.Sets.{Places}
-use Rattle.places.specs.PlaceSets.{bit, has, word, packed}
-use Rattle.places.specs.declared.PlaceSet.{PlaceSet}
+use Rattle.sets.specs.Sets.{Places}
+use Rattle.sets.specs.PlaceSets.{bit, has, word, packed}
+use Rattle.sets.specs.declared.PlaceSet.{PlaceSet}
 
 -- ---- rows as bytes: document 01, 'Histories'
 

@@ -1,3 +1,2 @@
 -- `Cases` has a law for each case of showing, `Laws` one for each way in which the code returns.
-pub mod Cases
-pub mod Laws
+pub mod Shows

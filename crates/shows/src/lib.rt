@@ -1,32 +1,24 @@
-// Showing two histories that fit and differ on a place, by the parts of a recovery: no copy of the whole is needed. The definitions that
-// the contracts cite stand in specs/Shows.antt.
+// Showing two histories that fit and differ on a place, by the parts of a recovery: no copy of the whole is needed.
 ghost use mathlib.Core.Path.{_≡_};
-ghost use Prim.Native.Nat.{_*_, _≤_, _<_};
-ghost use lib.ListN.{length};
-ghost use Rattle.places.specs.Sets as sets;
-ghost use Rattle.places.specs.PlaceSets.{has, kept};
+ghost use Prim.Native.Nat.{_*_, _<_};
+ghost use Rattle.sets.specs.Sets as sets;
+ghost use Rattle.sets.specs.PlaceSets.{has, kept};
 ghost use Rattle.histories.specs.Rule as rule;
 ghost use Rattle.rows.specs.Rows.{rowsOf};
 ghost use Rattle.histories.specs.Kept as keeping;
 ghost use Rattle.answers.specs.Views.{size, acceptedIn, recordedIn};
-ghost use Rattle.shows.specs.Shows.{laidIn, shownIn};
-use places::Found;
-use places::Place;
-use places::PlaceSet;
+ghost use Rattle.answers.specs.Shows.{laidIn, shownIn};
+use answers::Showing;
 use rows::Rows;
-
-// Both histories are laid down, or the place is decided, or it is refused by a number.
-pub enum Showing {
-    Shown,
-    Decided,
-    Refused(u8),
-}
+use sets::Found;
+use sets::Place;
+use sets::PlaceSet;
 
 // What one that heard a place has in its row: the place, and all that is before it.
 fn heard_row(rows: &Rows, returned: PlaceSet, count: usize, place: Place) -> PlaceSet
     ensures { λ s. ⌜ has s ≡ kept (sets.with (place .0) (rule.reach (size count) (recordedIn count (has returned) (now (rows .entry))) (place .0))) ⌝ }
 {
-    let own = answers::before(rows, returned, count, place);
+    let own = chains::before(rows, returned, count, place);
     places::with(own, place)
 }
 
@@ -36,8 +28,8 @@ fn lay_copied(rows: &Rows, n: usize, first: &mut [u8], second: &mut [u8])
     ensures { λ s. ⌜ now (second .exit) ≡ laidIn n (rowsOf (now (rows .entry))) (now (second .entry)) ⌝ }
 {
     let table = *rows;
-    rows::lay(first, &table, n);
-    rows::lay(second, &table, n);
+    row_tables::lay(first, &table, n);
+    row_tables::lay(second, &table, n);
 }
 
 // The same; few rows are laid without a copy of them all.
@@ -49,8 +41,8 @@ fn lay_both(rows: &Rows, n: usize, first: &mut [u8], second: &mut [u8])
         lay_copied(rows, n, first, second);
         return;
     }
-    rows::lay(first, rows, n);
-    rows::lay(second, rows, n);
+    row_tables::lay(first, rows, n);
+    row_tables::lay(second, rows, n);
 }
 
 // Shows a place that is open: 13, or both histories laid down, the second with another row for the lowest blocker.
@@ -72,7 +64,7 @@ fn show_open(
     ensures { λ s. ⌜ now (first .exit) ≡ shownIn (size count) (acceptedIn count (has returned) (has full) (now (rows .entry))) (has mourned) (has earlier) (rowsOf (now (rows .entry))) (place .0) (now (first .entry)) (now (second .entry)) .first ⌝ }
     ensures { λ s. ⌜ now (second .exit) ≡ shownIn (size count) (acceptedIn count (has returned) (has full) (now (rows .entry))) (has mourned) (has earlier) (rowsOf (now (rows .entry))) (place .0) (now (first .entry)) (now (second .entry)) .second ⌝ }
 {
-    let n = answers::size(count);
+    let n = standings::size(count);
     if first.len() < 16 * n {
         return Showing::Refused(13);
     }
@@ -81,7 +73,7 @@ fn show_open(
     }
     let heard = heard_row(rows, returned, count, place);
     lay_both(rows, n, first, second);
-    rows::put(second, 16 * blocker.0, heard);
+    row_bytes::put(second, 16 * blocker.0, heard);
     Showing::Shown
 }
 
@@ -101,13 +93,13 @@ pub fn show(
     ensures { λ s. ⌜ now (first .exit) ≡ shownIn (size count) (acceptedIn count (has returned) (has full) (now (rows .entry))) (has mourned) (has earlier) (rowsOf (now (rows .entry))) (place .0) (now (first .entry)) (now (second .entry)) .first ⌝ }
     ensures { λ s. ⌜ now (second .exit) ≡ shownIn (size count) (acceptedIn count (has returned) (has full) (now (rows .entry))) (has mourned) (has earlier) (rowsOf (now (rows .entry))) (place .0) (now (first .entry)) (now (second .entry)) .second ⌝ }
 {
-    if answers::size(count) <= place.0 {
+    if standings::size(count) <= place.0 {
         return Showing::Refused(12);
     }
     if places::contains(mourned, place) {
         return Showing::Decided;
     }
-    let blocking = answers::blockers(rows, returned, full, mourned, earlier, count, place);
+    let blocking = blocking::blockers(rows, returned, full, mourned, earlier, count, place);
     let found = places::lowest(blocking);
     let Found::At(blocker) = found else {
         return Showing::Decided;

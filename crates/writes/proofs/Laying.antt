@@ -12,17 +12,17 @@ use lib.ListN.{length, getD, take, drop, set, length-set, length-append, length-
 use lib.Seq.{take-all, drop-drop, take-suc}
 use borrow.Author.Tests.{le-leb, lt-leb, lt-ltb, le-ltb}
 use borrow.Rule.Slice.PartMut.{putMid}
-use Rattle.places.specs.Sets.{Places, nothing, below, intersection, count}
-use Rattle.places.specs.PlaceSets.{has, kept}
-use Rattle.places.specs.declared.PlaceSet.{PlaceSet}
-use Rattle.places.proofs.Counting.{count-same, count-first, count-add, count-nothing}
+use Rattle.sets.specs.Sets.{Places, nothing, below, intersection, count}
+use Rattle.sets.specs.PlaceSets.{has, kept}
+use Rattle.sets.specs.declared.PlaceSet.{PlaceSet}
+use Rattle.sets.proofs.Counting.{count-same, count-first, count-add, count-nothing}
 use Rattle.histories.specs.declared.Kind.{Kind}
-use Rattle.records.specs.declared.Writing.the-variants as W
-use Rattle.records.specs.Layout.{kindByte, serialBytes, serialsBytes, chosen, layout}
-use Rattle.records.specs.Records.{unwritten, putAt, writtenAt, written}
-use Rattle.records.specs.Parts.{recordBytes}
-use Rattle.fronts.specs.Fronts.{front}
-use Rattle.fronts.proofs.Laws.{front-none, front-byte, front-part}
+use Rattle.layouts.specs.declared.Writing.the-variants as W
+use Rattle.layouts.specs.Layout.{kindByte, serialBytes, serialsBytes, chosen, layout}
+use Rattle.layouts.specs.Records.{unwritten, putAt, writtenAt, written}
+use Rattle.layouts.specs.Parts.{recordBytes}
+use Rattle.layouts.specs.Fronts.{front}
+use Rattle.layouts.proofs.Fronts.{front-none, front-byte, front-part}
 
 -- how long the part from k on is
 pub part-long : (m : List ℕ) (k : ℕ) → k ≤ length m → length (take (length m - k) (drop k m)) ≡ length m - k

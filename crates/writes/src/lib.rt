@@ -1,22 +1,20 @@
-// Writing stored records: a record laid into a lent buffer from a position on. What it writes, and what it answers, is said by the
-// definitions of `records`.
+// Writing stored records: a record laid into a lent buffer from a position on. Each section writer lays its bytes into the front of the part
+// that is lent to it.
 ghost use mathlib.Core.Path.{_≡_};
-ghost use mathlib.Core.Bool.{Bool, true, cond};
+ghost use mathlib.Core.Bool.{true, cond};
 ghost use mathlib.Core.List.{[], _∷_};
-ghost use Prim.Native.Nat.{ℕ, _+_, _*_, _≤_, _<_};
+ghost use Prim.Native.Nat.{_+_, _*_, _≤_, _<_};
 ghost use lib.ListN.{length};
-ghost use Rattle.places.specs.Sets.{count};
-ghost use Rattle.places.specs.PlaceSets.{has};
-ghost use Rattle.records.specs.Layout.{kindByte, serialBytes, serialsBytes, chosen};
-ghost use Rattle.records.specs.Records.{written};
-ghost use Rattle.records.specs.Parts.{recordBytes};
-ghost use Rattle.fronts.specs.Fronts.{front};
+ghost use Rattle.sets.specs.Sets.{count};
+ghost use Rattle.sets.specs.PlaceSets.{has};
+ghost use Rattle.layouts.specs.Layout.{kindByte, serialBytes, serialsBytes, chosen};
+ghost use Rattle.layouts.specs.Records.{written};
+ghost use Rattle.layouts.specs.Parts.{recordBytes};
+ghost use Rattle.layouts.specs.Fronts.{front};
 use histories::Kind;
-use places::Place;
-use places::PlaceSet;
-use records::Writing;
-
-// Each section writer lays its bytes into the front of the part that is lent to it.
+use layouts::Writing;
+use sets::Place;
+use sets::PlaceSet;
 
 fn kind_byte(kind: Kind) -> u8
     ensures { λ r. ⌜ r ≡ kindByte kind ⌝ }

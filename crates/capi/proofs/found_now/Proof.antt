@@ -1,7 +1,7 @@
 -- `capi::found_now` meets its contract. Assumes nothing.
 use mathlib.Core.Path.{sym, ap}
 use borrow.Author.Needs.{needs}
-use Rattle.capi.specs.Boundary.{foundOf}
+use Rattle.boundary.specs.Recoveries.{foundOf}
 use Rattle.capi.proofs.found_now.Statement.{statement}
 use Rattle.capi.proofs.found_now.Tie as tie
 

@@ -1,6 +1,6 @@
 -- `capi::gm_find` meets its contract. Assumes nothing.
 use borrow.Author.Needs.{needs}
-use Rattle.capi.proofs.Calls.{found-is}
+use Rattle.boundary.proofs.Calls.{found-is}
 use Rattle.capi.proofs.gm_find.Statement.{statement}
 use Rattle.capi.proofs.gm_find.Tie as tie
 

@@ -3,8 +3,8 @@ use mathlib.Core.Path.{_≡_, refl}
 use native.Mathlib.Omega.{arith}
 use lib.ListN.{length}
 use borrow.Author.Needs.{needs}
-use Rattle.recovery.proofs.Gives.{gave-on}
-use Rattle.capi.proofs.Calls.{gives-given, gives-refused}
+use Rattle.calls.proofs.Gives.{gave-on}
+use Rattle.boundary.proofs.Calls.{gives-given, gives-refused}
 use Rattle.capi.proofs.gm_give.Statement.{statement}
 use Rattle.capi.proofs.gm_give.Tie as tie
 

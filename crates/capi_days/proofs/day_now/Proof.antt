@@ -1,6 +1,6 @@
 -- `capi_days::day_now` meets its contract. Assumes nothing.
 use borrow.Author.Needs.{needs}
-use Rattle.capi_days.specs.Boundary.{dayNow}
+use Rattle.boundary.specs.Days.{dayNow}
 use Rattle.capi_days.proofs.day_now.Statement.{statement}
 use Rattle.capi_days.proofs.day_now.Tie as tie
 

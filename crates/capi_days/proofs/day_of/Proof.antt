@@ -1,6 +1,6 @@
 -- `capi_days::day_of` meets its contract. Assumes nothing.
 use borrow.Author.Needs.{needs}
-use Rattle.capi_days.specs.Boundary.{dayOf}
+use Rattle.boundary.specs.Days.{dayOf}
 use Rattle.capi_days.proofs.day_of.Statement.{statement}
 use Rattle.capi_days.proofs.day_of.Tie as tie
 

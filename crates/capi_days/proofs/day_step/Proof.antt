@@ -2,7 +2,7 @@
 use mathlib.Core.Path.{_≡_}
 use lib.ListN.{length}
 use borrow.Author.Needs.{needs}
-use Rattle.capi_days.specs.Boundary.{eventOf}
+use Rattle.boundary.specs.Days.{eventOf}
 use Rattle.capi_days.proofs.Plays.{step-refused, step-on}
 use Rattle.capi_days.proofs.day_step.Statement.{statement}
 use Rattle.capi_days.proofs.day_step.Tie as tie

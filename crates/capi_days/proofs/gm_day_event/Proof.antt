@@ -1,6 +1,6 @@
 -- `capi_days::gm_day_event` meets its contract. Assumes nothing.
 use borrow.Author.Needs.{needs}
-use Rattle.capi_days.specs.Boundary.{eventOf}
+use Rattle.boundary.specs.Days.{eventOf}
 use Rattle.capi_days.proofs.Days.{event-is}
 use Rattle.capi_days.proofs.gm_day_event.Statement.{statement}
 use Rattle.capi_days.proofs.gm_day_event.Tie as tie

@@ -1,8 +1,8 @@
 -- `capi_days::read_day_head` meets its contract. Assumes nothing.
 use mathlib.Core.Path.{refl}
 use borrow.Author.Needs.{needs}
-use Rattle.words.specs.Words.{setAt}
-use Rattle.capi_days.specs.Boundary.{kindIn, stoppedIn}
+use Rattle.boundary.specs.Words.{setAt}
+use Rattle.boundary.specs.Days.{kindIn, stoppedIn}
 use Rattle.capi_days.proofs.read_day_head.Statement.{statement}
 use Rattle.capi_days.proofs.read_day_head.Tie as tie
 

@@ -1,6 +1,6 @@
 -- `capi_days::write_day_head` meets its contract. Assumes nothing.
 use borrow.Author.Needs.{needs}
-use Rattle.capi_days.specs.Boundary.{dayHeadOf}
+use Rattle.boundary.specs.Days.{dayHeadOf}
 use Rattle.capi_days.proofs.write_day_head.Statement.{statement}
 use Rattle.capi_days.proofs.write_day_head.Tie as tie
 

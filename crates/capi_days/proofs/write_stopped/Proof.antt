@@ -1,7 +1,7 @@
 -- `capi_days::write_stopped` meets its contract. Assumes nothing.
 use mathlib.Core.Path.{refl}
 use borrow.Author.Needs.{needs}
-use Rattle.capi_days.specs.Boundary.{withStopped}
+use Rattle.boundary.specs.Days.{withStopped}
 use Rattle.capi_days.proofs.write_stopped.Statement.{statement}
 use Rattle.capi_days.proofs.write_stopped.Tie as tie
 

@@ -1,7 +1,7 @@
 -- `capi_fetches::fetch_now` meets its contract. Assumes nothing.
 use mathlib.Core.Path.{sym, ap}
 use borrow.Author.Needs.{needs}
-use Rattle.capi_fetches.specs.Boundary.{fetchOf}
+use Rattle.boundary.specs.Fetches.{fetchOf}
 use Rattle.capi_fetches.proofs.fetch_now.Statement.{statement}
 use Rattle.capi_fetches.proofs.fetch_now.Tie as tie
 

@@ -1,7 +1,7 @@
 -- `capi_fetches::game_now` meets its contract. Assumes nothing.
 use mathlib.Core.Path.{sym, ap}
 use borrow.Author.Needs.{needs}
-use Rattle.capi_fetches.specs.Boundary.{gameOf}
+use Rattle.boundary.specs.Fetches.{gameOf}
 use Rattle.capi_fetches.proofs.game_now.Statement.{statement}
 use Rattle.capi_fetches.proofs.game_now.Tie as tie
 

@@ -1,7 +1,7 @@
 -- `capi_fetches::set_at` meets its contract. Assumes nothing.
 use mathlib.Core.Path.{refl}
 use borrow.Author.Needs.{needs}
-use Rattle.words.specs.Words.{setAt}
+use Rattle.boundary.specs.Words.{setAt}
 use Rattle.capi_fetches.proofs.set_at.Statement.{statement}
 use Rattle.capi_fetches.proofs.set_at.Tie as tie
 

@@ -1,7 +1,7 @@
 -- `capi_records::gm_roster_is` meets its contract. Assumes nothing.
 use mathlib.Core.Path.{ap, _∙_}
 use borrow.Author.Needs.{needs}
-use Rattle.words.specs.Words.{yesCode}
+use Rattle.boundary.specs.Words.{yesCode}
 use Rattle.capi_records.proofs.gm_roster_is.Statement.{statement}
 use Rattle.capi_records.proofs.gm_roster_is.Tie as tie
 

@@ -2,7 +2,7 @@
 use mathlib.Core.Path.{_≡_}
 use native.Mathlib.Omega.{arith}
 use borrow.Author.Needs.{needs}
-use Rattle.words.specs.Words.{setAt}
+use Rattle.boundary.specs.Words.{setAt}
 use Rattle.capi_records.proofs.Writes.{lays-full, lays-short, lays-none}
 use Rattle.capi_records.proofs.gm_write_record.Statement.{statement}
 use Rattle.capi_records.proofs.gm_write_record.Tie as tie

@@ -3,8 +3,8 @@ use mathlib.Core.Path.{refl, ap, _∙_}
 use Prim.Native.Nat.{_-_}
 use native.Mathlib.Omega.{arith}
 use borrow.Author.Needs.{needs}
-use Rattle.places.specs.Sets.{Places, intersection}
-use Rattle.places.specs.PlaceSets.{has}
+use Rattle.sets.specs.Sets.{Places, intersection}
+use Rattle.sets.specs.PlaceSets.{has}
 use Rattle.checks.proofs.ahead.Statement.{statement}
 use Rattle.checks.proofs.ahead.Tie as tie
 

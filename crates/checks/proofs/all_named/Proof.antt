@@ -3,10 +3,10 @@ use mathlib.Core.Path.{_≡_}
 use Prim.Native.Nat.{_≤_, _-_}
 use native.Mathlib.Omega.{arith}
 use borrow.Author.Needs.{needs}
-use Rattle.places.specs.Sets.{any}
-use Rattle.places.specs.PlaceSets.{has}
+use Rattle.sets.specs.Sets.{any}
+use Rattle.sets.specs.PlaceSets.{has}
 use Rattle.rows.specs.Rows.{historyIn}
-use Rattle.checks.proofs.Laws.{named-start, named-next, named-all}
+use Rattle.checks.proofs.Checks.{named-start, named-next, named-all}
 use Rattle.checks.proofs.all_named.Statement.{statement}
 use Rattle.checks.proofs.all_named.Tie as tie
 

@@ -4,12 +4,12 @@ use mathlib.Core.Bool.{true}
 use native.Mathlib.Omega.{arith}
 use borrow.Author.Tests.{not-true, not-false}
 use borrow.Author.Needs.{needs}
-use Rattle.places.specs.Sets.{same, count}
-use Rattle.places.specs.PlaceSets.{has}
-use Rattle.places.proofs.Booleans.{clash}
-use Rattle.places.proofs.Laws.{lowest-found, lowest-nothing, without-count}
+use Rattle.sets.specs.Sets.{same, count}
+use Rattle.sets.specs.PlaceSets.{has}
+use Rattle.sets.proofs.Booleans.{clash}
+use Rattle.sets.proofs.Laws.{lowest-found, lowest-nothing, without-count}
 use Rattle.rows.specs.Rows.{rowsOf, historyIn}
-use Rattle.checks.proofs.Laws.{Turns, cut-on, turns-next, each-holds, each-fails}
+use Rattle.checks.proofs.Checks.{Turns, cut-on, turns-next, each-holds, each-fails}
 use Rattle.checks.proofs.all_recorded.Statement.{statement}
 use Rattle.checks.proofs.all_recorded.Tie as tie
 

@@ -3,11 +3,11 @@ use mathlib.Core.Path.{refl, sym, _∙_}
 use native.Mathlib.Omega.{arith}
 use borrow.Author.Tests.{not-true, not-false}
 use borrow.Author.Needs.{needs}
-use Rattle.places.specs.Sets.{count}
-use Rattle.places.specs.PlaceSets.{has}
-use Rattle.places.proofs.Laws.{lowest-found, lowest-nothing, without-count}
+use Rattle.sets.specs.Sets.{count}
+use Rattle.sets.specs.PlaceSets.{has}
+use Rattle.sets.proofs.Laws.{lowest-found, lowest-nothing, without-count}
 use Rattle.rows.specs.Rows.{historyIn}
-use Rattle.checks.proofs.Laws.{Turns, lent-on, turns-start, turns-next}
+use Rattle.checks.proofs.Checks.{Turns, lent-on, turns-start, turns-next}
 use Rattle.checks.proofs.Closed.{AllCovered, duty-open, duty-met}
 use Rattle.checks.proofs.duty_met.Statement.{statement}
 use Rattle.checks.proofs.duty_met.Tie as tie

@@ -3,7 +3,7 @@ use mathlib.Core.Path.{sym, _∙_}
 use native.Mathlib.Omega.{arith}
 use borrow.Author.Tests.{not-true, not-false}
 use borrow.Author.Needs.{needs}
-use Rattle.checks.proofs.Laws.{fits-not, fits-circle, fits-duty}
+use Rattle.checks.proofs.Checks.{fits-not, fits-circle, fits-duty}
 use Rattle.checks.proofs.fits.Statement.{statement}
 use Rattle.checks.proofs.fits.Tie as tie
 

@@ -2,7 +2,7 @@
 use mathlib.Core.Path.{ap, _∙_}
 use mathlib.Core.Bool.{not, Bool·not-not}
 use borrow.Author.Needs.{needs}
-use Rattle.places.specs.Sets.{any}
+use Rattle.sets.specs.Sets.{any}
 use Rattle.checks.proofs.meets.Statement.{statement}
 use Rattle.checks.proofs.meets.Tie as tie
 

@@ -3,11 +3,11 @@ use mathlib.Core.Path.{refl, sym, ap, _∙_}
 use Prim.Native.Nat.{_+_, _*_, _-_}
 use native.Mathlib.Omega.{arith}
 use borrow.Author.Needs.{needs}
-use Rattle.places.specs.Sets.{Places, count}
-use Rattle.places.specs.PlaceSets.{has}
-use Rattle.places.proofs.Laws.{lowest-found, lowest-nothing, without-count}
+use Rattle.sets.specs.Sets.{Places, count}
+use Rattle.sets.specs.PlaceSets.{has}
+use Rattle.sets.proofs.Laws.{lowest-found, lowest-nothing, without-count}
 use Rattle.rows.specs.Rows.{historyIn}
-use Rattle.checks.proofs.Laws.{lent-on}
+use Rattle.checks.proofs.Checks.{lent-on}
 use Rattle.checks.proofs.Walk.{Walk, walk-starts, next-left, next-follows, next-none, walk-room, walk-longer, walk-circle, walk-shorter, walk-ends}
 use Rattle.checks.proofs.no_circle.Statement.{statement}
 use Rattle.checks.proofs.no_circle.Tie as tie

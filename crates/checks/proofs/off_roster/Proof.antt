@@ -1,6 +1,6 @@
 -- `checks::off_roster` meets its contract. Assumes nothing.
 use borrow.Author.Needs.{needs}
-use Rattle.checks.proofs.Laws.{row-off, named-off}
+use Rattle.checks.proofs.Checks.{row-off, named-off}
 use Rattle.checks.proofs.off_roster.Statement.{statement}
 use Rattle.checks.proofs.off_roster.Tie as tie
 

@@ -4,12 +4,12 @@ use mathlib.Core.Bool.{true≢false, false≢true}
 use native.Mathlib.Omega.{arith}
 use borrow.Author.Tests.{not-true, not-false}
 use borrow.Author.Needs.{needs}
-use Rattle.places.specs.Sets.{count}
-use Rattle.places.specs.PlaceSets.{has}
-use Rattle.places.proofs.Laws.{lowest-found, lowest-nothing}
+use Rattle.sets.specs.Sets.{count}
+use Rattle.sets.specs.PlaceSets.{has}
+use Rattle.sets.proofs.Laws.{lowest-found, lowest-nothing}
 use Rattle.rows.specs.Rows.{historyIn}
-use Rattle.checks.specs.Checks.{Covered}
-use Rattle.checks.proofs.Laws.{Turns, turns-start, turns-end, subset-is}
+use Rattle.answers.specs.Checks.{Covered}
+use Rattle.checks.proofs.Checks.{Turns, turns-start, turns-end, subset-is}
 use Rattle.checks.proofs.Closed.{row-open, row-less, row-goes}
 use Rattle.checks.proofs.row_closed.Statement.{statement}
 use Rattle.checks.proofs.row_closed.Tie as tie

@@ -2,7 +2,7 @@
 use mathlib.Core.Path.{refl}
 use native.Mathlib.Omega.{arith}
 use borrow.Author.Needs.{needs}
-use Rattle.checks.proofs.Laws.{row-is, same-is}
+use Rattle.checks.proofs.Checks.{row-is, same-is}
 use Rattle.checks.proofs.row_recorded.Statement.{statement}
 use Rattle.checks.proofs.row_recorded.Tie as tie
 

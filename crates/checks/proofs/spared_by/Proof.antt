@@ -1,6 +1,6 @@
 -- `checks::spared_by` meets its contract. Assumes nothing.
 use borrow.Author.Needs.{needs}
-use Rattle.checks.proofs.Laws.{all-spared, none-spared}
+use Rattle.checks.proofs.Checks.{all-spared, none-spared}
 use Rattle.checks.proofs.spared_by.Statement.{statement}
 use Rattle.checks.proofs.spared_by.Tie as tie
 

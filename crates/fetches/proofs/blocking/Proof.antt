@@ -1,11 +1,11 @@
 -- `fetches::blocking` meets its contract. Assumes nothing.
 use mathlib.Core.Path.{sym, _∙_}
 use native.Mathlib.Omega.{arith}
-use Rattle.places.specs.PlaceSets.{has}
-use Rattle.places.proofs.Laws.{lowest-found, lowest-nothing, without-count}
+use Rattle.sets.specs.PlaceSets.{has}
+use Rattle.sets.proofs.Laws.{lowest-found, lowest-nothing, without-count}
 use Rattle.answers.specs.Views.{size, acceptedIn}
 use Rattle.answers.proofs.Views.{size-at-most}
-use Rattle.fetches.proofs.Gathering.{back-in, Gathered, gathered-none, gathered-next, gathered-all, gathered-enough}
+use Rattle.answers.proofs.Gathering.{back-in, Gathered, gathered-none, gathered-next, gathered-all, gathered-enough}
 use borrow.Author.Needs.{needs}
 use Rattle.fetches.proofs.blocking.Statement.{statement}
 use Rattle.fetches.proofs.blocking.Tie as tie
@@ -14,7 +14,7 @@ abbrev Inv-loop : tie.InvT-loop
 Inv-loop rows returned full mourned earlier count missing unasked₀ known₀ unasked known = Gathered (size count) (acceptedIn count (has returned) (has full) rows) (has mourned) (has earlier) unasked₀ unasked known
 
 abbrev μ-loop : tie.MeasureT-loop
-μ-loop rows returned full mourned earlier count missing unasked₀ known₀ unasked known = Rattle.places.specs.Sets.count 128 (has unasked)
+μ-loop rows returned full mourned earlier count missing unasked₀ known₀ unasked known = Rattle.sets.specs.Sets.count 128 (has unasked)
 
 unheard-requires : tie.Need-unheard-requires Inv-loop μ-loop
 unheard-requires c κs = search needs

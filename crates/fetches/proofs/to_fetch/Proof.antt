@@ -2,8 +2,8 @@
 use mathlib.Core.Path.{sym, ap, _∙_}
 use Prim.Native.Nat.{ℕ}
 use Rattle.answers.proofs.Views.{size-at-most}
-use Rattle.fetches.specs.declared.Fetching.the-variants.{Needs}
-use Rattle.fetches.proofs.Gathering.{told-none, told-some}
+use Rattle.answers.specs.declared.Fetching.the-variants.{Needs}
+use Rattle.answers.proofs.Gathering.{told-none, told-some}
 use borrow.Author.Needs.{needs}
 use Rattle.fetches.proofs.to_fetch.Statement.{statement}
 use Rattle.fetches.proofs.to_fetch.Tie as tie

@@ -1,5 +1,5 @@
 -- `groups::find` meets its contract. Assumes nothing.
-use Rattle.groups.proofs.Laws.{length-taken, found-by}
+use Rattle.answers.proofs.Groups.{length-taken, found-by}
 use borrow.Author.Needs.{needs}
 use Rattle.groups.proofs.find.Statement.{statement}
 use Rattle.groups.proofs.find.Tie as tie

@@ -1,6 +1,6 @@
 -- `groups::has_second` meets its contract. Assumes nothing.
 use borrow.Author.Needs.{needs}
-use Rattle.groups.proofs.Laws.{second-past}
+use Rattle.answers.proofs.Groups.{second-past}
 use Rattle.groups.proofs.has_second.Statement.{statement}
 use Rattle.groups.proofs.has_second.Tie as tie
 

@@ -1,6 +1,6 @@
 -- `groups::is_known` meets its contract. Assumes nothing.
 use mathlib.Core.Path.{sym, ap, _∙_}
-use Rattle.groups.specs.Groups.{isFound}
+use Rattle.answers.specs.Groups.{isFound}
 use borrow.Author.Needs.{needs}
 use Rattle.groups.proofs.is_known.Statement.{statement}
 use Rattle.groups.proofs.is_known.Tie as tie

@@ -1,7 +1,7 @@
 -- `groups::may_give` meets its contract: one law for each answer. Assumes nothing.
 use mathlib.Core.Path.{sym, _∙_}
 use native.Mathlib.Omega.{arith}
-use Rattle.groups.proofs.Laws.{give-off, give-zero, give-known, give-has, give-new}
+use Rattle.answers.proofs.Groups.{give-off, give-zero, give-known, give-has, give-new}
 use borrow.Author.Needs.{needs}
 use Rattle.groups.proofs.may_give.Statement.{statement}
 use Rattle.groups.proofs.may_give.Tie as tie

@@ -1,5 +1,5 @@
 -- `groups::read_lone` meets its contract. Assumes nothing.
-use Rattle.groups.proofs.Laws.{length-taken, read-by}
+use Rattle.answers.proofs.Groups.{length-taken, read-by}
 use borrow.Author.Needs.{needs}
 use Rattle.groups.proofs.read_lone.Statement.{statement}
 use Rattle.groups.proofs.read_lone.Tie as tie

@@ -1,5 +1,5 @@
 -- `groups::roster_length` meets its contract. Assumes nothing.
-use Rattle.groups.proofs.Laws.{length-size, length-there}
+use Rattle.answers.proofs.Groups.{length-size, length-there}
 use borrow.Author.Needs.{needs}
 use Rattle.groups.proofs.roster_length.Statement.{statement}
 use Rattle.groups.proofs.roster_length.Tie as tie

@@ -2,8 +2,8 @@
 use native.Mathlib.Omega.{arith}
 use lib.ListN.{length}
 use borrow.Author.Needs.{needs}
-use Rattle.lines.specs.Lines.{decimal}
-use Rattle.lines.proofs.Laws.{Counted, counted-none, counted-more, counted-all}
+use Rattle.transcripts.specs.Lines.{decimal}
+use Rattle.transcripts.proofs.Laws.{Counted, counted-none, counted-more, counted-all}
 use Rattle.lines.proofs.count_digits.Statement.{statement}
 use Rattle.lines.proofs.count_digits.Tie as tie
 

@@ -4,9 +4,9 @@ use Prim.Native.Nat.{_-_, _≤_}
 use native.Mathlib.Omega.{arith}
 use lib.ListN.{length, length-set}
 use borrow.Author.Needs.{needs}
-use Rattle.lines.specs.Lines.{decimal}
-use Rattle.fronts.specs.Fronts.{front}
-use Rattle.lines.proofs.Laws.{Laying, laying-none, laying-more, laying-all}
+use Rattle.transcripts.specs.Lines.{decimal}
+use Rattle.layouts.specs.Fronts.{front}
+use Rattle.transcripts.proofs.Laws.{Laying, laying-none, laying-more, laying-all}
 use Rattle.lines.proofs.lay_decimal.Statement.{statement}
 use Rattle.lines.proofs.lay_decimal.Tie as tie
 

@@ -3,8 +3,8 @@ use mathlib.Core.Path.{refl}
 use native.Mathlib.Omega.{arith}
 use lib.ListN.{length}
 use borrow.Author.Needs.{needs}
-use Rattle.lines.specs.Lines.{line}
-use Rattle.fronts.proofs.Laws.{front-byte}
+use Rattle.transcripts.specs.Lines.{line}
+use Rattle.layouts.proofs.Fronts.{front-byte}
 use Rattle.lines.proofs.lay_last.Statement.{statement}
 use Rattle.lines.proofs.lay_last.Tie as tie
 

@@ -5,10 +5,10 @@ use Prim.Native.Nat.{ℕ, _+_}
 use native.Mathlib.Omega.{arith}
 use lib.ListN.{length, length-append}
 use borrow.Author.Needs.{needs}
-use Rattle.lines.specs.Lines.{decimal, line}
-use Rattle.fronts.specs.Fronts.{front}
-use Rattle.fronts.proofs.Laws.{front-part}
-use Rattle.lines.proofs.Laws.{line-last}
+use Rattle.transcripts.specs.Lines.{decimal, line}
+use Rattle.layouts.specs.Fronts.{front}
+use Rattle.layouts.proofs.Fronts.{front-part}
+use Rattle.transcripts.proofs.Laws.{line-last}
 use Rattle.lines.proofs.lay_numbered.Statement.{statement}
 use Rattle.lines.proofs.lay_numbered.Tie as tie
 

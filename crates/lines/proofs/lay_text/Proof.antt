@@ -5,9 +5,9 @@ use native.Mathlib.Omega.{arith}
 use lib.ListN.{length, take, length-set}
 use lib.Seq.{take-all}
 use borrow.Author.Needs.{needs}
-use Rattle.fronts.specs.Fronts.{front}
-use Rattle.fronts.proofs.Laws.{front-none}
-use Rattle.lines.proofs.Laws.{front-text}
+use Rattle.layouts.specs.Fronts.{front}
+use Rattle.layouts.proofs.Fronts.{front-none}
+use Rattle.transcripts.proofs.Laws.{front-text}
 use Rattle.lines.proofs.lay_text.Statement.{statement}
 use Rattle.lines.proofs.lay_text.Tie as tie
 

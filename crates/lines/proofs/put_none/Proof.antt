@@ -1,6 +1,6 @@
 -- `lines::put_none` meets its contract. The literal is the definition's text. Assumes nothing.
 use borrow.Author.Needs.{needs}
-use Rattle.lines.specs.Lines.{noneLine, ascii}
+use Rattle.transcripts.specs.Lines.{noneLine, ascii}
 use Rattle.lines.proofs.put_none.Statement.{statement}
 use Rattle.lines.proofs.put_none.Tie as tie
 

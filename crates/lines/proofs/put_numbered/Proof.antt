@@ -4,8 +4,8 @@ use Prim.Native.Nat.{_+_}
 use native.Mathlib.Omega.{arith}
 use lib.ListN.{length}
 use borrow.Author.Needs.{needs}
-use Rattle.lines.specs.Lines.{decimal, line}
-use Rattle.lines.proofs.Laws.{length-numbered, put-refused, put-laid}
+use Rattle.transcripts.specs.Lines.{decimal, line}
+use Rattle.transcripts.proofs.Laws.{length-numbered, put-refused, put-laid}
 use Rattle.lines.proofs.put_numbered.Statement.{statement}
 use Rattle.lines.proofs.put_numbered.Tie as tie
 

@@ -1,6 +1,6 @@
 -- `lines::put_place` meets its contract. Each arm's literals are the definition's words. Assumes nothing.
 use borrow.Author.Needs.{needs}
-use Rattle.lines.specs.Lines.{placeLine, answerWords, ascii}
+use Rattle.transcripts.specs.Lines.{placeLine, answerWords, ascii}
 use Rattle.lines.proofs.put_place.Statement.{statement}
 use Rattle.lines.proofs.put_place.Tie as tie
 

@@ -1,6 +1,6 @@
 -- `lines::put_record` meets its contract. Each arm's literals are the definition's words. Assumes nothing.
 use borrow.Author.Needs.{needs}
-use Rattle.lines.specs.Lines.{recordLine, offerWords, ascii}
+use Rattle.transcripts.specs.Lines.{recordLine, offerWords, ascii}
 use Rattle.lines.proofs.put_record.Statement.{statement}
 use Rattle.lines.proofs.put_record.Tie as tie
 

@@ -6,8 +6,8 @@ use native.Mathlib.Omega.{arith}
 use lib.ListN.{length, take, length-take, length-drop}
 use borrow.Rule.Slice.PartMut.{putMid}
 use borrow.Author.Needs.{needs}
-use Rattle.lines.specs.Lines.{ascii, decimal}
-use Rattle.lines.proofs.Laws.{front-parted, decimal-byte}
+use Rattle.transcripts.specs.Lines.{ascii, decimal}
+use Rattle.transcripts.proofs.Laws.{front-parted, decimal-byte}
 use Rattle.lines.proofs.put_refused.Statement.{statement}
 use Rattle.lines.proofs.put_refused.Tie as tie
 

@@ -4,8 +4,8 @@ use Prim.Native.Nat.{_+_}
 use native.Mathlib.Omega.{arith}
 use lib.ListN.{length}
 use borrow.Author.Needs.{needs}
-use Rattle.lines.specs.Lines.{line}
-use Rattle.lines.proofs.Laws.{length-line, put-refused, put-laid}
+use Rattle.transcripts.specs.Lines.{line}
+use Rattle.transcripts.proofs.Laws.{length-line, put-refused, put-laid}
 use Rattle.lines.proofs.put_text.Statement.{statement}
 use Rattle.lines.proofs.put_text.Tie as tie
 

@@ -1,6 +1,6 @@
 -- `lines::put_whole` meets its contract. Each arm's literal is the definition's text. Assumes nothing.
 use borrow.Author.Needs.{needs}
-use Rattle.lines.specs.Lines.{wholeLine, ascii}
+use Rattle.transcripts.specs.Lines.{wholeLine, ascii}
 use Rattle.lines.proofs.put_whole.Statement.{statement}
 use Rattle.lines.proofs.put_whole.Tie as tie
 

@@ -3,9 +3,9 @@ use mathlib.Core.Path.{_≡_}
 use Prim.Native.Nat.{_+_, _-_}
 use native.Mathlib.Omega.{arith}
 use borrow.Author.Needs.{needs}
-use Rattle.places.specs.PlaceSets.{bit, has}
-use Rattle.lists.specs.Lists.{byteBy}
-use Rattle.lists.proofs.Laying.{laid-same, laid-on, byte-low, byte-high}
+use Rattle.sets.specs.PlaceSets.{bit, has}
+use Rattle.answers.specs.Lists.{byteBy}
+use Rattle.answers.proofs.Laying.{laid-same, laid-on, byte-low, byte-high}
 use Rattle.lists.proofs.lay.Statement.{statement}
 use Rattle.lists.proofs.lay.Tie as tie
 

@@ -5,9 +5,9 @@ use native.Mathlib.Omega.{arith}
 use native.Mathlib.Nat.{div-one}
 use lib.ListN.{length, length-set}
 use borrow.Author.Needs.{needs}
-use Rattle.places.specs.PlaceSets.{bit}
-use Rattle.lists.specs.Lists.{byteBy, laid}
-use Rattle.lists.proofs.Laying.{laid-none, laid-next, shifted, byte-first}
+use Rattle.sets.specs.PlaceSets.{bit}
+use Rattle.answers.specs.Lists.{byteBy, laid}
+use Rattle.answers.proofs.Laying.{laid-none, laid-next, shifted, byte-first}
 use Rattle.lists.proofs.lay_few.Statement.{statement}
 use Rattle.lists.proofs.lay_few.Tie as tie
 

@@ -5,9 +5,9 @@ use native.Mathlib.Omega.{arith}
 use native.Mathlib.Nat.{div-one}
 use lib.ListN.{length}
 use borrow.Author.Needs.{needs}
-use Rattle.places.specs.PlaceSets.{bit}
-use Rattle.lists.specs.Lists.{byteBy, laid}
-use Rattle.lists.proofs.Laying.{laid-length, laid-none, laid-on, shifted, eight-fits, eight-bytes, byte-shift}
+use Rattle.sets.specs.PlaceSets.{bit}
+use Rattle.answers.specs.Lists.{byteBy, laid}
+use Rattle.answers.proofs.Laying.{laid-length, laid-none, laid-on, shifted, eight-fits, eight-bytes, byte-shift}
 use Rattle.lists.proofs.lay_word.Statement.{statement}
 use Rattle.lists.proofs.lay_word.Tie as tie
 

@@ -1,7 +1,7 @@
 -- `lists::list` meets its contract. Assumes nothing.
 use native.Mathlib.Omega.{arith}
 use borrow.Author.Needs.{needs}
-use Rattle.lists.proofs.Laws.{list-short, list-done}
+use Rattle.answers.proofs.Lists.{list-short, list-done}
 use Rattle.lists.proofs.list.Statement.{statement}
 use Rattle.lists.proofs.list.Tie as tie
 

@@ -5,8 +5,8 @@ use native.Mathlib.Omega.{arith}
 use native.Mathlib.Nat.{div-one}
 use lib.ListN.{length, length-set}
 use borrow.Author.Needs.{needs}
-use Rattle.lists.specs.Lists.{laid}
-use Rattle.lists.proofs.Laying.{laid-none, laid-next, shifted}
+use Rattle.answers.specs.Lists.{laid}
+use Rattle.answers.proofs.Laying.{laid-none, laid-next, shifted}
 use Rattle.lists.proofs.put_eight.Statement.{statement}
 use Rattle.lists.proofs.put_eight.Tie as tie
 

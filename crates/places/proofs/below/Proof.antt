@@ -1,6 +1,6 @@
 -- `places::below` meets its contract. Assumes nothing.
 use borrow.Author.Needs.{needs}
-use Rattle.places.proofs.Words.{below-low, below-high}
+use Rattle.sets.proofs.Words.{below-low, below-high}
 use Rattle.places.proofs.below.Statement.{statement}
 use Rattle.places.proofs.below.Tie as tie
 

@@ -1,8 +1,8 @@
 -- `places::contains` meets its contract. Assumes nothing.
 use borrow.Author.Needs.{needs}
 use mathlib.Core.Path.{sym, _∙_}
-use Rattle.places.proofs.Words.{has-low, has-upper, has-past}
-use Rattle.places.proofs.Digits.{bit-tested}
+use Rattle.sets.proofs.Words.{has-low, has-upper, has-past}
+use Rattle.sets.proofs.Digits.{bit-tested}
 use Rattle.places.proofs.contains.Statement.{statement}
 use Rattle.places.proofs.contains.Tie as tie
 

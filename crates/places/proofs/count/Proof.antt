@@ -1,7 +1,7 @@
 -- `places::count` meets its contract. Assumes nothing.
 use native.Mathlib.Omega.{arith}
 use lib.Count.{ones-le}
-use Rattle.places.proofs.Words.{has-count}
+use Rattle.sets.proofs.Words.{has-count}
 use Rattle.places.proofs.count.Statement.{statement}
 use Rattle.places.proofs.count.Tie as tie
 

@@ -1,5 +1,5 @@
 -- `places::difference` meets its contract. Assumes nothing.
-use Rattle.places.proofs.Words.{has-difference}
+use Rattle.sets.proofs.Words.{has-difference}
 use Rattle.places.proofs.difference.Statement.{statement}
 use Rattle.places.proofs.difference.Tie as tie
 

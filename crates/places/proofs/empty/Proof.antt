@@ -1,6 +1,6 @@
 -- `places::empty` meets its contract. Assumes nothing.
 use mathlib.Core.Path.{refl}
-use Rattle.places.proofs.Words.{has-none}
+use Rattle.sets.proofs.Words.{has-none}
 use Rattle.places.proofs.empty.Statement.{statement}
 use Rattle.places.proofs.empty.Tie as tie
 

@@ -1,5 +1,5 @@
 -- `places::intersection` meets its contract. Assumes nothing.
-use Rattle.places.proofs.Words.{has-intersection}
+use Rattle.sets.proofs.Words.{has-intersection}
 use Rattle.places.proofs.intersection.Statement.{statement}
 use Rattle.places.proofs.intersection.Tie as tie
 

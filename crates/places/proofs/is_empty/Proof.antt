@@ -3,7 +3,7 @@ use mathlib.Core.Path.{_∙_, sym, ap}
 use mathlib.Core.Bool.{not}
 use native.Mathlib.Omega.{arith}
 use borrow.Author.Tests.{ne-eqb}
-use Rattle.places.proofs.Words.{any-words, any-low}
+use Rattle.sets.proofs.Words.{any-words, any-low}
 use Rattle.places.proofs.is_empty.Statement.{statement}
 use Rattle.places.proofs.is_empty.Tie as tie
 

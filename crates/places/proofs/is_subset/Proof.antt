@@ -1,7 +1,7 @@
 -- `places::is_subset` meets its contract. Assumes nothing.
 use borrow.Author.Needs.{needs}
 use mathlib.Core.Path.{_∙_}
-use Rattle.places.proofs.Laws.{subset-difference}
+use Rattle.sets.proofs.Laws.{subset-difference}
 use Rattle.places.proofs.is_subset.Statement.{statement}
 use Rattle.places.proofs.is_subset.Tie as tie
 

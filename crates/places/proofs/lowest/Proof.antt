@@ -1,7 +1,7 @@
 -- `places::lowest` meets its contract. Assumes nothing.
 use native.Mathlib.Omega.{arith}
 use lib.Count.{trailing-le}
-use Rattle.places.proofs.Words.{lowest-low, lowest-high, lowest-neither}
+use Rattle.sets.proofs.Words.{lowest-low, lowest-high, lowest-neither}
 use Rattle.places.proofs.lowest.Statement.{statement}
 use Rattle.places.proofs.lowest.Tie as tie
 

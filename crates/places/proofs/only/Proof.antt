@@ -1,6 +1,6 @@
 -- `places::only` meets its contract. Assumes nothing.
 use borrow.Author.Needs.{needs}
-use Rattle.places.proofs.Words.{only-low, only-high, only-none}
+use Rattle.sets.proofs.Words.{only-low, only-high, only-none}
 use Rattle.places.proofs.only.Statement.{statement}
 use Rattle.places.proofs.only.Tie as tie
 

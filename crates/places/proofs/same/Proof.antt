@@ -2,7 +2,7 @@
 use mathlib.Core.Path.{_∙_, sym}
 use native.Mathlib.Omega.{arith}
 use borrow.Author.Tests.{ne-eqb}
-use Rattle.places.proofs.Words.{same-words, differ-words}
+use Rattle.sets.proofs.Words.{same-words, differ-words}
 use Rattle.places.proofs.same.Statement.{statement}
 use Rattle.places.proofs.same.Tie as tie
 

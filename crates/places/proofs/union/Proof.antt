@@ -1,5 +1,5 @@
 -- `places::union` meets its contract. Assumes nothing.
-use Rattle.places.proofs.Words.{has-union}
+use Rattle.sets.proofs.Words.{has-union}
 use Rattle.places.proofs.union.Statement.{statement}
 use Rattle.places.proofs.union.Tie as tie
 

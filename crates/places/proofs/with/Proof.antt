@@ -1,6 +1,6 @@
 -- `places::with` meets its contract. Assumes nothing.
 use borrow.Author.Needs.{needs}
-use Rattle.places.proofs.Laws.{union-only}
+use Rattle.sets.proofs.Laws.{union-only}
 use Rattle.places.proofs.with.Statement.{statement}
 use Rattle.places.proofs.with.Tie as tie
 

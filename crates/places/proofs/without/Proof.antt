@@ -1,6 +1,6 @@
 -- `places::without` meets its contract. Assumes nothing.
 use borrow.Author.Needs.{needs}
-use Rattle.places.proofs.Laws.{difference-only}
+use Rattle.sets.proofs.Laws.{difference-only}
 use Rattle.places.proofs.without.Statement.{statement}
 use Rattle.places.proofs.without.Tie as tie
 

@@ -1,8 +1,8 @@
 -- `places::word_below` meets its contract. Assumes nothing.
 use borrow.Author.Needs.{needs}
 use lib.Pow.{pow-pos}
-use Rattle.places.proofs.Digits.{one-shl}
-use Rattle.places.proofs.Words.{word-some, word-all}
+use Rattle.sets.proofs.Digits.{one-shl}
+use Rattle.sets.proofs.Words.{word-some, word-all}
 use Rattle.places.proofs.word_below.Statement.{statement}
 use Rattle.places.proofs.word_below.Tie as tie
 

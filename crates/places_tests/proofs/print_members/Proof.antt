@@ -2,9 +2,9 @@
 use mathlib.Core.Path.{sym, _∙_}
 use native.Mathlib.Omega.{arith}
 use borrow.Author.Needs.{needs}
-use Rattle.places.specs.Sets.{count}
-use Rattle.places.specs.PlaceSets.{has}
-use Rattle.places.proofs.Laws.{lowest-found, without-count}
+use Rattle.sets.specs.Sets.{count}
+use Rattle.sets.specs.PlaceSets.{has}
+use Rattle.sets.proofs.Laws.{lowest-found, without-count}
 use Rattle.places_tests.proofs.print_members.Statement.{statement}
 use Rattle.places_tests.proofs.print_members.Tie as tie
 

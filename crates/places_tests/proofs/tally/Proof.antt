@@ -3,10 +3,10 @@ use mathlib.Core.Path.{_≡_, sym, _∙_}
 use Prim.Native.Nat.{_+_}
 use native.Mathlib.Omega.{arith}
 use borrow.Author.Needs.{needs}
-use Rattle.places.specs.Sets.{count}
-use Rattle.places.specs.PlaceSets.{has}
-use Rattle.places.proofs.Counting.{count-at-most}
-use Rattle.places.proofs.Laws.{lowest-found, lowest-nothing, without-count, nothing-count}
+use Rattle.sets.specs.Sets.{count}
+use Rattle.sets.specs.PlaceSets.{has}
+use Rattle.sets.proofs.Counting.{count-at-most}
+use Rattle.sets.proofs.Laws.{lowest-found, lowest-nothing, without-count, nothing-count}
 use Rattle.places_tests.proofs.tally.Statement.{statement}
 use Rattle.places_tests.proofs.tally.Tie as tie
 

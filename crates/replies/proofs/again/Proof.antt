@@ -2,9 +2,9 @@
 use mathlib.Core.Path.{sym, _∙_}
 use mathlib.Core.Bool.{true, false}
 use borrow.Author.Tests.{not-true, not-false}
-use Rattle.places.specs.PlaceSets.{has}
+use Rattle.sets.specs.PlaceSets.{has}
 use Rattle.answers.specs.Views.{acceptedIn}
-use Rattle.replies.proofs.Laws.{same-cut, again-kind, again-row, kind-is}
+use Rattle.answers.proofs.Replies.{same-cut, again-kind, again-row, kind-is}
 use borrow.Author.Needs.{needs}
 use Rattle.replies.proofs.again.Statement.{statement}
 use Rattle.replies.proofs.again.Tie as tie

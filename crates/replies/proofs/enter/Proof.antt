@@ -1,7 +1,7 @@
 -- `replies::enter` meets its contract. Assumes nothing.
 use mathlib.Core.Path.{sym, _∙_}
 use borrow.Author.Needs.{needs}
-use Rattle.replies.proofs.Laws.{entering-back, entering-new, back-at}
+use Rattle.answers.proofs.Replies.{entering-back, entering-new, back-at}
 use Rattle.replies.proofs.enter.Statement.{statement}
 use Rattle.replies.proofs.enter.Tie as tie
 

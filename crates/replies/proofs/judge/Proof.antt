@@ -1,8 +1,8 @@
 -- `replies::judge` meets its contract. Assumes nothing.
 use mathlib.Core.Path.{sym, _∙_}
 use borrow.Author.Tests.{not-true, not-false}
-use Rattle.groups.proofs.Laws.{take-roster, length-taken}
-use Rattle.replies.proofs.Laws.{judged-roster, judged-entering}
+use Rattle.answers.proofs.Groups.{take-roster, length-taken}
+use Rattle.answers.proofs.Replies.{judged-roster, judged-entering}
 use borrow.Author.Needs.{needs}
 use Rattle.replies.proofs.judge.Statement.{statement}
 use Rattle.replies.proofs.judge.Tie as tie

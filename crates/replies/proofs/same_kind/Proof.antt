@@ -1,7 +1,7 @@
 -- `replies::same_kind` meets its contract. Assumes nothing.
 use mathlib.Core.Path.{sym, ap₂}
 use borrow.Author.Needs.{needs}
-use Rattle.replies.specs.Replies.{sameKind}
+use Rattle.answers.specs.Replies.{sameKind}
 use Rattle.replies.proofs.same_kind.Statement.{statement}
 use Rattle.replies.proofs.same_kind.Tie as tie
 

@@ -1,7 +1,7 @@
 -- `shows::heard_row` meets its contract. Assumes nothing.
 use mathlib.Core.Path.{ap, _∙_}
-use Rattle.places.specs.Sets.{with}
-use Rattle.places.specs.PlaceSets.{kept}
+use Rattle.sets.specs.Sets.{with}
+use Rattle.sets.specs.PlaceSets.{kept}
 use Rattle.histories.specs.Histories.{Row}
 use borrow.Author.Needs.{needs}
 use Rattle.shows.proofs.heard_row.Statement.{statement}

@@ -1,5 +1,5 @@
 -- `shows::lay_both` meets its contract. Assumes nothing.
-use Rattle.shows.specs.Shows.{laidIn}
+use Rattle.answers.specs.Shows.{laidIn}
 use borrow.Author.Needs.{needs}
 use Rattle.shows.proofs.lay_both.Statement.{statement}
 use Rattle.shows.proofs.lay_both.Tie as tie

@@ -1,5 +1,5 @@
 -- `shows::lay_copied` meets its contract. Assumes nothing.
-use Rattle.shows.specs.Shows.{laidIn}
+use Rattle.answers.specs.Shows.{laidIn}
 use borrow.Author.Needs.{needs}
 use Rattle.shows.proofs.lay_copied.Statement.{statement}
 use Rattle.shows.proofs.lay_copied.Tie as tie

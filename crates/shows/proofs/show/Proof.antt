@@ -2,7 +2,7 @@
 use mathlib.Core.Path.{sym, _∙_}
 use native.Mathlib.Omega.{arith}
 use Rattle.answers.proofs.Views.{size-at-most}
-use Rattle.shows.proofs.Laws.{blocker-at, blocker-open, blocker-none, show-12, show-last, show-not-last}
+use Rattle.shows.proofs.Shows.{blocker-at, blocker-open, blocker-none, show-12, show-last, show-not-last}
 use borrow.Author.Needs.{needs}
 use Rattle.shows.proofs.show.Statement.{statement}
 use Rattle.shows.proofs.show.Tie as tie

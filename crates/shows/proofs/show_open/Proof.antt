@@ -2,7 +2,7 @@
 use mathlib.Core.Logic.{inl, inr}
 use native.Mathlib.Omega.{arith}
 use borrow.Author.Needs.{needs}
-use Rattle.shows.proofs.Laws.{blocker-small, heard-row, show-13, show-both}
+use Rattle.shows.proofs.Shows.{blocker-small, heard-row, show-13, show-both}
 use Rattle.shows.proofs.show_open.Statement.{statement}
 use Rattle.shows.proofs.show_open.Tie as tie
 

@@ -1,7 +1,7 @@
 -- `words::end_of` meets its contract. Assumes nothing.
 use mathlib.Core.Path.{sym, ap}
 use borrow.Author.Needs.{needs}
-use Rattle.words.specs.Words.{endOf}
+use Rattle.boundary.specs.Words.{endOf}
 use Rattle.words.proofs.end_of.Statement.{statement}
 use Rattle.words.proofs.end_of.Tie as tie
 

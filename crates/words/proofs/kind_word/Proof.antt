@@ -1,7 +1,7 @@
 -- `words::kind_word` meets its contract. Assumes nothing.
 use mathlib.Core.Path.{sym, ap}
 use borrow.Author.Needs.{needs}
-use Rattle.records.specs.Layout.{kindByte}
+use Rattle.layouts.specs.Layout.{kindByte}
 use Rattle.words.proofs.kind_word.Statement.{statement}
 use Rattle.words.proofs.kind_word.Tie as tie
 

@@ -1,6 +1,6 @@
 -- `words::yes_code` meets its contract. Assumes nothing.
 use mathlib.Core.Path.{sym, ap}
-use Rattle.words.specs.Words.{yesCode}
+use Rattle.boundary.specs.Words.{yesCode}
 use Rattle.words.proofs.yes_code.Statement.{statement}
 use Rattle.words.proofs.yes_code.Tie as tie
 

@@ -1,6 +1,6 @@
 -- `writes::kind_byte` meets its contract. Assumes nothing.
 use borrow.Author.Needs.{needs}
-use Rattle.records.specs.Layout.{kindByte}
+use Rattle.layouts.specs.Layout.{kindByte}
 use Rattle.writes.proofs.kind_byte.Statement.{statement}
 use Rattle.writes.proofs.kind_byte.Tie as tie
 

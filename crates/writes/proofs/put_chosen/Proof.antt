@@ -7,10 +7,10 @@ use native.Mathlib.Omega.{arith}
 use lib.ListN.{length, take}
 use lib.Seq.{take-all}
 use borrow.Author.Needs.{needs}
-use Rattle.places.specs.PlaceSets.{has}
-use Rattle.records.specs.Layout.{serialsBytes, chosen}
-use Rattle.fronts.specs.Fronts.{front}
-use Rattle.fronts.proofs.Laws.{front-none}
+use Rattle.sets.specs.PlaceSets.{has}
+use Rattle.layouts.specs.Layout.{serialsBytes, chosen}
+use Rattle.layouts.specs.Fronts.{front}
+use Rattle.layouts.proofs.Fronts.{front-none}
 use Rattle.writes.proofs.Laying.{part-long, chosen-four, turn-size, turn-room, turn-laid}
 use Rattle.writes.proofs.put_chosen.Statement.{statement}
 use Rattle.writes.proofs.put_chosen.Tie as tie

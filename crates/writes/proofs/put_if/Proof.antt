@@ -3,7 +3,7 @@ use mathlib.Core.Path.{_≡_, sym}
 use mathlib.Core.Bool.{true, false}
 use borrow.Author.Needs.{needs}
 use borrow.Author.Tests.{not-true, not-false}
-use Rattle.fronts.proofs.Laws.{front-none}
+use Rattle.layouts.proofs.Fronts.{front-none}
 use Rattle.writes.proofs.Laying.{serial-long}
 use Rattle.writes.proofs.put_if.Statement.{statement}
 use Rattle.writes.proofs.put_if.Tie as tie

@@ -1,6 +1,6 @@
 -- `writes::put_record` meets its contract: each section makes the front of the buffer longer. Assumes nothing.
 use borrow.Author.Needs.{needs}
-use Rattle.places.specs.PlaceSets.{has}
+use Rattle.sets.specs.PlaceSets.{has}
 use Rattle.writes.proofs.Laying.{record-laid}
 use Rattle.writes.proofs.put_record.Statement.{statement}
 use Rattle.writes.proofs.put_record.Tie as tie

@@ -2,8 +2,8 @@
 use native.Mathlib.Omega.{arith}
 use lib.ListN.{length-set}
 use borrow.Author.Needs.{needs}
-use Rattle.records.specs.Layout.{serialBytes}
-use Rattle.fronts.specs.Fronts.{front}
+use Rattle.layouts.specs.Layout.{serialBytes}
+use Rattle.layouts.specs.Fronts.{front}
 use Rattle.writes.proofs.Laying.{four}
 use Rattle.writes.proofs.put_serial.Statement.{statement}
 use Rattle.writes.proofs.put_serial.Tie as tie

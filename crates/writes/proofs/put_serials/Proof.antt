@@ -6,9 +6,9 @@ use native.Mathlib.Omega.{arith}
 use lib.ListN.{length, take, getD}
 use lib.Seq.{length-take-le, take-all}
 use borrow.Author.Needs.{needs}
-use Rattle.records.specs.Layout.{serialBytes, serialsBytes}
-use Rattle.fronts.specs.Fronts.{front}
-use Rattle.fronts.proofs.Laws.{front-none, front-part}
+use Rattle.layouts.specs.Layout.{serialBytes, serialsBytes}
+use Rattle.layouts.specs.Fronts.{front}
+use Rattle.layouts.proofs.Fronts.{front-none, front-part}
 use Rattle.writes.proofs.Laying.{part-long, serials-long, bytes-more}
 use Rattle.writes.proofs.put_serials.Statement.{statement}
 use Rattle.writes.proofs.put_serials.Tie as tie

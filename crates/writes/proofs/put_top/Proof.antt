@@ -5,8 +5,8 @@ use Prim.Native.Nat.{ℕ}
 use native.Mathlib.Omega.{arith}
 use lib.ListN.{length-set}
 use borrow.Author.Needs.{needs}
-use Rattle.records.specs.Layout.{serialBytes}
-use Rattle.fronts.specs.Fronts.{front}
+use Rattle.layouts.specs.Layout.{serialBytes}
+use Rattle.layouts.specs.Fronts.{front}
 use Rattle.writes.proofs.Laying.{section-long, section-laid}
 use Rattle.writes.proofs.put_top.Statement.{statement}
 use Rattle.writes.proofs.put_top.Tie as tie

@@ -4,9 +4,9 @@ use Prim.Native.Nat.{_+_, _*_}
 use native.Mathlib.Omega.{arith}
 use lib.ListN.{length}
 use borrow.Author.Needs.{needs}
-use Rattle.places.specs.PlaceSets.{has}
-use Rattle.places.proofs.Counting.{count-at-most}
-use Rattle.records.specs.Layout.{chosen}
+use Rattle.sets.specs.PlaceSets.{has}
+use Rattle.sets.proofs.Counting.{count-at-most}
+use Rattle.layouts.specs.Layout.{chosen}
 use Rattle.writes.proofs.Laying.{part-long, chosen-count, write-12, write-3, write-13, write-done}
 use Rattle.writes.proofs.write.Statement.{statement}
 use Rattle.writes.proofs.write.Tie as tie

@@ -4,7 +4,7 @@ use Prim.Native.Nat.{_-_, _≤_}
 use native.Mathlib.Omega.{arith}
 use lib.ListN.{length}
 use borrow.Author.Needs.{needs}
-use Rattle.recovery.specs.Contracts.{sizeOf}
+use Rattle.calls.specs.Contracts.{sizeOf}
 use Rattle.recover.proofs.Gathered.{each-says}
 use Rattle.recover.proofs.listing.list_places.Statement.{statement}
 use Rattle.recover.proofs.listing.list_places.Tie as tie

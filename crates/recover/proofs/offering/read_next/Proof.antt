@@ -5,8 +5,8 @@ use Prim.Native.Nat.{ℕ}
 use lib.ListN.{take}
 use lib.Seq.{length-take-le}
 use borrow.Author.Needs.{needs}
-use Rattle.rosters.proofs.Seconds.{counts-nobody}
-use Rattle.records.specs.Records.{reading}
+use Rattle.serials.proofs.Seconds.{counts-nobody}
+use Rattle.layouts.specs.Records.{reading}
 use Rattle.recover.proofs.offering.read_next.Statement.{statement}
 use Rattle.recover.proofs.offering.read_next.Tie as tie
 

@@ -1,7 +1,7 @@
 -- `output::say_none` meets its contract. Assumes nothing.
 use native.Mathlib.Omega.{arith}
 use borrow.Author.Needs.{needs}
-use Rattle.lines.proofs.Laws.{line-length, none-line}
+use Rattle.transcripts.proofs.Laws.{line-length, none-line}
 use Rattle.recover.proofs.Gathered.{said}
 use Rattle.recover.proofs.output.say_none.Statement.{statement}
 use Rattle.recover.proofs.output.say_none.Tie as tie

@@ -1,7 +1,7 @@
 -- `output::say_whole` meets its contract. Assumes nothing.
 use native.Mathlib.Omega.{arith}
 use borrow.Author.Needs.{needs}
-use Rattle.lines.proofs.Laws.{line-length, whole-line}
+use Rattle.transcripts.proofs.Laws.{line-length, whole-line}
 use Rattle.recover.proofs.Gathered.{said}
 use Rattle.recover.proofs.output.say_whole.Statement.{statement}
 use Rattle.recover.proofs.output.say_whole.Tie as tie

@@ -1,7 +1,7 @@
 -- `window::ready` meets its contract. Assumes nothing.
 use native.Mathlib.Omega.{arith}
 use borrow.Author.Needs.{needs}
-use Rattle.places.proofs.Booleans.{clash}
+use Rattle.sets.proofs.Booleans.{clash}
 use Rattle.recover.proofs.Streams.{window-enough}
 use Rattle.recover.proofs.Windows.{length-ahead, starts-itself}
 use Rattle.recover.proofs.window.ready.Statement.{statement}

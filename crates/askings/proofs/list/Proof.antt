@@ -1,0 +1,18 @@
+-- `askings::list` meets its contract. Assumes nothing.
+use borrow.Author.Needs.{needs}
+use Rattle.calls.specs.Contracts.{sizeOf, acceptedOf, listedOf}
+use Rattle.askings.proofs.list.Statement.{statement}
+use Rattle.askings.proofs.list.Tie as tie
+
+list-requires : tie.Need-list-requires
+list-requires c κs = search needs
+
+same-length : tie.Need-same-length
+same-length c = search needs
+
+returns : tie.Need-returns
+unfolding listedOf sizeOf acceptedOf
+returns c = c .before .before .list .ensures
+
+pub list-spec : {M : Type 1} → statement M
+list-spec = tie.close (tie.spec list-requires same-length returns)

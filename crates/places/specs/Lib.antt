@@ -1,3 +1,0 @@
--- What the contracts of `places` cite.
-pub mod Sets
-pub mod PlaceSets
