@@ -1,30 +1,71 @@
 // A stored record as far as its roster's end: kind, own serial, roster. The ticket desk sees no more.
 ghost use mathlib.Core.Path.{_≡_};
-ghost use mathlib.Core.List.{[]};
-ghost use Prim.Native.Nat.{ℕ, _+_, _*_, _≤_, _<_};
+ghost use Prim.Native.Nat.{_≤_, ℕ, _+_, _*_, _<_};
 ghost use lib.ListN.{length, take, drop};
-ghost use Rattle.serials.specs.Seconds.{countsAs};
-ghost use Rattle.layouts.specs.Layout.{rosterSerials, headSection};
+ghost use Rattle.sets.specs.PlaceSets.{found};
+ghost use Rattle.serials.specs.Rosters.{placeFrom};
+ghost use Rattle.serials.specs.Seconds.{countsAs, standsFor};
+ghost use Rattle.layouts.specs.Parts.{headOn, rosterAfter, ownAfter, ownerOf, OwnerIn, headOf, HeadIn};
+ghost use Rattle.layouts.specs.Layout.{headSection};
 ghost use Rattle.layouts.specs.Records.{serials};
 ghost use Rattle.layouts.specs.Desk.{shownToDesk, liesOf};
-ghost use Rattle.layouts.specs.Parts.{rosterAfter, ownAfter, ownerOf, OwnerIn, coded, headOf, Rostered, HeadIn};
 use histories::Kind;
 use layouts::Heading;
 use layouts::Owner;
 use layouts::Sight;
+use layouts::Top;
+use serials::Finding;
 use serials::Serial;
 use sets::Found;
 
-// The serials of a roster of `count` from a position on, into the front of the list: 0, or the first fault.
-fn read_roster(bytes: &[u8], at: usize, count: usize, list: &mut [u32; 128]) -> u8
-    requires { ⌜ at ≤ length (now bytes) ⌝ }
-    requires { ⌜ count ≤ 128 ⌝ }
-    ensures { λ r. ⌜ rosterSerials count [] (drop at (now (bytes .entry))) ≡ coded r (take count (now (list .exit))) (drop (at + count * 4) (now (bytes .entry))) ⌝ }
-    ensures { λ r. ⌜ (r ≡ 0 → Rostered (now (bytes .entry)) at count (now (list .exit))) ⌝ }
+// The place of an own or a mourned serial on a record's roster, looked for from a place on first: as a first serial or as a second one.
+pub fn locate(roster: &[u32], from: usize, firsts: &[u32], seconds: &[u32], serial: Serial) -> Found
+    ensures { λ r. ⌜ r ≡ found (length (now (roster .entry))) (placeFrom from (standsFor (countsAs (now (firsts .entry)) (now (seconds .entry))) (now (roster .entry)) (serial .0)) (now (roster .entry))) ⌝ }
 {
-    let m = serial_bytes::serials_there(bytes, at, count);
-    serial_bytes::decode(bytes, at, m, list);
-    serial_bytes::roster_fault(list, m, count)
+    match lookups::look_up(roster, from, firsts, seconds, serial) {
+        Finding::First(place) => Found::At(place),
+        Finding::Second(place) => Found::At(place),
+        Finding::Nothing => Found::Nothing,
+    }
+}
+
+// The head of a record whose roster, this list, stands at a position: its own serial is looked up there.
+pub fn on_roster(
+    kind: Kind,
+    own: Serial,
+    roster: usize,
+    list: &[u32],
+    firsts: &[u32],
+    seconds: &[u32],
+) -> Heading
+    ensures { λ r. ⌜ r ≡ headOn (countsAs (now (firsts .entry)) (now (seconds .entry))) kind (own .0) roster (length (now (list .entry))) (now (list .entry)) ⌝ }
+{
+    let Found::At(place) = locate(list, 0, firsts, seconds, own) else {
+        return Heading::Refused(6);
+    };
+    Heading::Found(Top {
+        kind,
+        own,
+        place,
+        roster,
+        count: list.len(),
+    })
+}
+
+// The same of the first n of a list.
+fn on_first(
+    kind: Kind,
+    own: Serial,
+    roster: usize,
+    list: &[u32],
+    n: usize,
+    firsts: &[u32],
+    seconds: &[u32],
+) -> Heading
+    requires { ⌜ n ≤ length (now list) ⌝ }
+    ensures { λ r. ⌜ r ≡ headOn (countsAs (now (firsts .entry)) (now (seconds .entry))) kind (own .0) roster n (take n (now (list .entry))) ⌝ }
+{
+    on_roster(kind, own, roster, &list[..n], firsts, seconds)
 }
 
 // The roster's section at a position, with the own serial looked up on it.
@@ -37,40 +78,29 @@ fn head_roster(
     firsts: &[u32],
     seconds: &[u32],
 ) -> Heading
-    requires { ⌜ at ≤ length (now bytes) ⌝ }
     ensures { λ r. ⌜ rosterAfter (countsAs (now (firsts .entry)) (now (seconds .entry))) kind (own .0) (drop at (now (bytes .entry))) ≡ headOf r (now (bytes .entry)) (now (list .exit)) ⌝ }
     ensures { λ r. ⌜ HeadIn r (now (bytes .entry)) (at + 1) (now (list .exit)) ⌝ }
 {
-    if bytes.len() <= at {
-        return Heading::Refused(1);
-    }
-    let n = bytes[at] as usize;
-    if n < 1 {
-        return Heading::Refused(3);
-    }
-    if 128 < n {
-        return Heading::Refused(3);
-    }
-    let fault = read_roster(bytes, at + 1, n, list);
+    let got = roster_bytes::read_roster(bytes, at, list);
+    let fault = got.fault;
     if fault != 0 {
         return Heading::Refused(fault);
     }
-    serial_bytes::on_roster(kind, own, at + 1, list, n, firsts, seconds)
+    let n = got.count;
+    on_first(kind, own, at + 1, list, n, firsts, seconds)
 }
 
 // The own serial at a position, of a record whose kind is known.
 fn read_own(bytes: &[u8], at: usize, kind: Kind) -> Owner
-    requires { ⌜ at ≤ length (now bytes) ⌝ }
     ensures { λ r. ⌜ ((alias : ℕ → ℕ) → ownAfter alias kind (drop at (now (bytes .entry))) ≡ ownerOf alias r (drop (at + 4) (now (bytes .entry)))) ⌝ }
     ensures { λ r. ⌜ OwnerIn r (at + 4) (length (now (bytes .entry))) ⌝ }
 {
-    if bytes.len() - at < 4 {
-        return Owner::Refused(1);
+    let got = roster_bytes::read_serial(bytes, at);
+    let fault = got.fault;
+    if fault != 0 {
+        return Owner::Refused(fault);
     }
-    let own = serial_bytes::serial_at(bytes, at);
-    if own.0 == 0 {
-        return Owner::Refused(4);
-    }
+    let own = got.serial;
     Owner::Of(kind, own)
 }
 

@@ -19,8 +19,8 @@ use Rattle.serials.specs.Seconds.{standsFor}
 use Rattle.serials.proofs.Rosters.{found-holds, found-lacks}
 use Rattle.serials.proofs.Seconds.{from-start}
 use Rattle.layouts.specs.declared.Heading.the-variants as H
-use Rattle.layouts.specs.Layout.{Parsed, got, refused, then, check, wordAt, knownKind, kindOf, kindSection, rosterSerials, rosterSection, isOn, placeOn, Head, headSection}
-use Rattle.layouts.specs.Parts.{rosterAfter, ownAfter, coded, headOn, headOf, Rostered, HeadIn}
+use Rattle.layouts.specs.Layout.{Parsed, got, refused, then, check, wordAt, serial, knownKind, kindOf, kindSection, rosterSerials, rosterSection, isOn, placeOn, Head, headSection}
+use Rattle.layouts.specs.Parts.{rosterAfter, ownAfter, coded, headOn, headOf, Rostered, HeadIn, Like}
 use Rattle.layouts.proofs.Sections.{check-yes, check-no, byte-early, byte-got, serial-early, serial-zero, serial-got}
 
 pub coded-fault : {A : Type 0} (j : ℕ) (a : A) (s : List ℕ) → (j ≡ 0 → ⊥) → coded j a s ≡ refused j
@@ -31,6 +31,37 @@ coded-fault (suc j) a s h = refl
 pub coded-none : {A : Type 0} (j : ℕ) (a : A) (s : List ℕ) → j ≡ 0 → coded j a s ≡ got a s
 unfolding coded
 coded-none j a s e = rw e
+
+-- ---- a serial, by the number of its fault
+
+alone : {A : Type 0} (q : Parsed A) → then q got ≡ q
+unfolding then
+alone (got a s) = refl
+alone (refused j) = refl
+
+module _ (s : List ℕ) (p : ℕ) where
+  pub serial-missing : (x : ℕ) → length s < p + 4 → serial (drop p s) ≡ coded 1 x (drop (p + 4) s)
+  unfolding coded
+  serial-missing x h = sym (alone (serial (drop p s))) ∙ serial-early s p got h
+
+  module _ (h : p + 4 ≤ length s) (x : ℕ) (w : x ≡ wordAt s p) where
+    pub serial-nil : x ≡ 0 → serial (drop p s) ≡ coded 4 x (drop (p + 4) s)
+    unfolding coded
+    serial-nil z = sym (alone (serial (drop p s))) ∙ serial-zero s p got h x w z
+
+    pub serial-some : (x ≡ 0 → ⊥) → serial (drop p s) ≡ coded 0 x (drop (p + 4) s)
+    unfolding coded
+    serial-some z = sym (alone (serial (drop p s))) ∙ serial-got s p got h x w z
+
+-- what follows a serial that was read so
+module _ {A : Type 0} (s : List ℕ) (p j x : ℕ) (read : serial (drop p s) ≡ coded j x (drop (p + 4) s)) (next : ℕ → List ℕ → Parsed A) where
+  pub serial-fault : (j ≡ 0 → ⊥) → then (serial (drop p s)) next ≡ refused j
+  unfolding then
+  serial-fault z = ap (λ (q : Parsed ℕ). then q next) (read ∙ coded-fault j x (drop (p + 4) s) z)
+
+  pub serial-read : j ≡ 0 → then (serial (drop p s)) next ≡ next x (drop (p + 4) s)
+  unfolding then
+  serial-read z = ap (λ (q : Parsed ℕ). then q next) (read ∙ coded-none j x (drop (p + 4) s) z)
 
 -- ---- the roster's count, and its serials
 
@@ -54,6 +85,31 @@ module _ (s : List ℕ) (p : ℕ) where
     roster-counted : 1 ≤ getD s p 0 → getD s p 0 ≤ 128 → rosterSection (drop p s) ≡ rosterSerials (getD s p 0) [] (drop (p + 1) s)
     unfolding rosterSection counted
     roster-counted f e = byte-got s p counted h ∙ check-yes _ 3 _ (le-leb _ _ f) ∙ check-yes _ 3 _ (le-leb _ _ e)
+
+-- the roster's section, by the number of its fault
+module _ (s : List ℕ) (p : ℕ) (l : List ℕ) where
+  pub section-early : length s ≤ p → rosterSection (drop p s) ≡ coded 1 (take 0 l) (drop (p + 1 + 0 * 4) s)
+  unfolding coded
+  section-early h = roster-early s p h
+
+  module _ (h : p < length s) where
+    pub section-few : getD s p 0 < 1 → rosterSection (drop p s) ≡ coded 3 (take 0 l) (drop (p + 1 + 0 * 4) s)
+    unfolding coded
+    section-few e = roster-few s p h e
+
+    pub section-many : 1 ≤ getD s p 0 → 128 < getD s p 0 → rosterSection (drop p s) ≡ coded 3 (take 0 l) (drop (p + 1 + 0 * 4) s)
+    unfolding coded
+    section-many f e = roster-many s p h f e
+
+    pub section-read : 1 ≤ getD s p 0 → getD s p 0 ≤ 128 → (j : ℕ) → rosterSerials (getD s p 0) [] (drop (p + 1) s) ≡ coded j (take (getD s p 0) l) (drop (p + 1 + getD s p 0 * 4) s)
+        → rosterSection (drop p s) ≡ coded j (take (getD s p 0) l) (drop (p + 1 + getD s p 0 * 4) s)
+    section-read f e j r = roster-counted s p h f e ∙ r
+
+-- the section that is known to be of a list
+pub like-section : (b : List ℕ) (at : ℕ) (list : List ℕ) → Like b at list
+    → rosterSection (drop at b) ≡ coded 0 (take (length list) list) (drop (at + 1 + length list * 4) b)
+unfolding coded
+like-section b at list w = roster-counted b at (w .inside) (w .some) (w .few) ∙ w .parsed
 
 -- ---- with the own serial looked up on it
 
@@ -101,48 +157,26 @@ module _ (alias : ℕ → ℕ) (k : Kind) (own : ℕ) where
         go true = record { starts = refl; rostered = r }
         go false = tt
 
-  module _ (s : List ℕ) (p : ℕ) where
-    pub after-early : length s ≤ p → rosterAfter alias k own (drop p s) ≡ refused 1
+  -- the section was read: the first n of a list, or the fault j
+  module _ (s : List ℕ) (p j n : ℕ) (list : List ℕ) (read : rosterSection (drop p s) ≡ coded j (take n list) (drop (p + 1 + n * 4) s)) where
+    pub after-fault : (j ≡ 0 → ⊥) → rosterAfter alias k own (drop p s) ≡ refused j
     unfolding then
-    after-early h = after (drop p s) (refused 1) (roster-early s p h)
+    after-fault z = after (drop p s) (refused j) (read ∙ coded-fault j _ _ z)
 
-    module _ (h : p < length s) where
-      pub after-few : getD s p 0 < 1 → rosterAfter alias k own (drop p s) ≡ refused 3
-      unfolding then
-      after-few e = after (drop p s) (refused 3) (roster-few s p h e)
-
-      module _ (f : 1 ≤ getD s p 0) where
-        pub after-many : 128 < getD s p 0 → rosterAfter alias k own (drop p s) ≡ refused 3
-        unfolding then
-        after-many e = after (drop p s) (refused 3) (roster-many s p h f e)
-
-        -- the serials were read: r, and `rest` after them, or the fault j
-        module _ (m : getD s p 0 ≤ 128) (j : ℕ) (r rest : List ℕ) (read : rosterSerials (getD s p 0) [] (drop (p + 1) s) ≡ coded j r rest) where
-          pub after-fault : (j ≡ 0 → ⊥) → rosterAfter alias k own (drop p s) ≡ refused j
-          unfolding then
-          after-fault z = after (drop p s) (refused j) (roster-counted s p h f m ∙ read ∙ coded-fault j r rest z)
-
-        -- they were read, and are the first n of a list
-        pub after-read : getD s p 0 ≤ 128 → (n : ℕ) (list : List ℕ) → rosterSerials (getD s p 0) [] (drop (p + 1) s) ≡ got (take n list) (drop (p + 1 + n * 4) s)
-            → rosterAfter alias k own (drop p s) ≡ headOf (headOn alias k own (p + 1) n (take n list)) s list
-        unfolding then
-        after-read m n list e = after (drop p s) (got (take n list) (drop (p + 1 + n * 4) s)) (roster-counted s p h f m ∙ e) ∙ on-head s list (p + 1) n
+    pub after-read : j ≡ 0 → rosterAfter alias k own (drop p s) ≡ headOf (headOn alias k own (p + 1) n (take n list)) s list
+    unfolding then
+    after-read z = after (drop p s) (got (take n list) (drop (p + 1 + n * 4) s)) (read ∙ coded-none j _ _ z) ∙ on-head s list (p + 1) n
 
 -- ---- the own serial, and the roster after it
 
-module _ (alias : ℕ → ℕ) (k : Kind) (s : List ℕ) (p : ℕ) where
-  pub own-early : length s < p + 4 → ownAfter alias k (drop p s) ≡ refused 1
+module _ (alias : ℕ → ℕ) (k : Kind) (s : List ℕ) (p j x : ℕ) (read : serial (drop p s) ≡ coded j x (drop (p + 4) s)) where
+  pub own-fault : (j ≡ 0 → ⊥) → ownAfter alias k (drop p s) ≡ refused j
   unfolding ownAfter
-  own-early h = serial-early s p (rosterAfter alias k) h
+  own-fault z = serial-fault s p j x read (rosterAfter alias k) z
 
-  module _ (h : p + 4 ≤ length s) (x : ℕ) (w : x ≡ wordAt s p) where
-    pub own-zero : x ≡ 0 → ownAfter alias k (drop p s) ≡ refused 4
-    unfolding ownAfter
-    own-zero z = serial-zero s p (rosterAfter alias k) h x w z
-
-    pub own-got : (x ≡ 0 → ⊥) → ownAfter alias k (drop p s) ≡ rosterAfter alias k x (drop (p + 4) s)
-    unfolding ownAfter
-    own-got z = serial-got s p (rosterAfter alias k) h x w z
+  pub own-got : j ≡ 0 → ownAfter alias k (drop p s) ≡ rosterAfter alias k x (drop (p + 4) s)
+  unfolding ownAfter
+  own-got z = serial-read s p j x read (rosterAfter alias k) z
 
 -- ---- the kind, and the own serial after it
 

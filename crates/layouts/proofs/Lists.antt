@@ -8,7 +8,7 @@ use native.Mathlib.Omega.{arith}
 use lib.Dec.{eqb, leb}
 use lib.ListN.{length, getD, take, drop, set, drop-of-length-le}
 use lib.Seq.{drop-cons, drop-drop, set-at, take-at}
-use borrow.Author.Tests.{le-leb, lt-leb, leb-true, eqb-true}
+use borrow.Author.Tests.{le-leb, lt-leb, leb-false, leb-true, eqb-true}
 use Rattle.sets.proofs.Booleans.{clash, both-ways, and-left, and-right}
 use Rattle.layouts.specs.Layout.{wordAt}
 use Rattle.layouts.specs.Records.{serials, sameList, rosterThere, rosterIs, copiable, copied}
@@ -31,6 +31,10 @@ room-there b at n h =
 pub there-fits : (b : List ℕ) (at n : ℕ) → rosterThere b at n ≡ true → at + n * 4 ≤ length b
 unfolding rosterThere
 there-fits b at n e = leb-true (at + n * 4) (length b) e
+
+pub there-lacks : (b : List ℕ) (at n : ℕ) → rosterThere b at n ≡ false → length b < at + n * 4
+unfolding rosterThere
+there-lacks b at n e = leb-false (at + n * 4) (length b) e
 
 -- ---- laid into the front of a list
 

@@ -1,5 +1,5 @@
 // Stored records as bytes: the layout, what the reader, the ticket desk and the writer answer, and both round trips. The functions stand in
-// `serial_bytes`, `heads`, `tails`, `roster_bytes`, `readings` and `writes`.
+// `roster_bytes`, `heads`, `readings` and `writes`.
 use histories::Kind;
 use serials::Serial;
 use sets::Found;
@@ -32,6 +32,18 @@ pub enum Sight {
 pub enum Writing {
     Next(usize),
     Refused(u8),
+}
+
+// A serial in a record: it, or the fault that its four bytes have; a fault of 0 is none.
+pub struct SerialRead {
+    pub fault: u8,
+    pub serial: Serial,
+}
+
+// A roster in a record: how many serials it has, or its first fault; a fault of 0 is none.
+pub struct RosterRead {
+    pub fault: u8,
+    pub count: usize,
 }
 
 // Whose record it is: its kind and its own serial.

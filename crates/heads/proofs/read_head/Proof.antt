@@ -22,9 +22,7 @@ add-head-roster c =
     omega (arith, w)
 
 head-roster-requires : tie.Need-head-roster-requires
-head-roster-requires c κs =
-    let w = rw (c .before .before .kind .given .1) at (c .before .before .before .before .read-owner .ensures .1) in
-    w
+head-roster-requires c κs = search needs
 
 returns : tie.Need-returns
 unfolding ownerOf headOf

@@ -1,14 +1,16 @@
 -- `readings::read_like` meets its contract: by the list where the roster is the list, and else by reading. Assumes nothing.
-use mathlib.Core.Path.{_≡_, refl, _∙_}
+use mathlib.Core.Path.{_≡_, refl, sym, ap, _∙_}
 use mathlib.Core.List.{[]}
 use Prim.Native.Nat.{_+_}
 use native.Mathlib.Omega.{arith}
 use lib.ListN.{length}
+use lib.Seq.{take-length}
 use borrow.Author.Needs.{needs}
 use borrow.Author.Tests.{not-false}
 use Rattle.layouts.specs.declared.Heading.the-variants.{Refused}
-use Rattle.layouts.specs.Parts.{ownerOf, headOf}
-use Rattle.layouts.proofs.Heads.{after-read, on-in}
+use Rattle.serials.specs.Seconds.{countsAs}
+use Rattle.layouts.specs.Parts.{ownerOf, headOn, headOf}
+use Rattle.layouts.proofs.Heads.{like-section, after-read, on-in}
 use Rattle.layouts.proofs.Readings.{read-no-head}
 use Rattle.readings.proofs.read_like.Statement.{statement}
 use Rattle.readings.proofs.read_like.Tie as tie
@@ -51,10 +53,11 @@ read-rest-requires c κs =
     let i = c .before .before in
     let w = i .is-like .ensures (not-false _ (c .before .if1 .left)) in
     let k = i .before .before in
-    let o = c .on-roster .ensures in
     let a = k .before .before .before .before .before .before .before .args in
+    let f = a .firsts .now in
+    let o = c .on-roster .ensures ∙ ap (headOn (countsAs f (a .seconds .now)) _ _ _ (length f)) (sym (take-length f)) in
     let e : a .at + 5 + 1 ≡ a .at + 6 = omega arith in (
-      k .before .before .read-owner .ensures .0 _ ∙ rw (k .kind .given .1, o, ← e) (after-read _ _ _ _ _ (w .inside) (w .some) (w .few) (length (a .firsts .now)) (a .firsts .now) (w .parsed)),
+      k .before .before .read-owner .ensures .0 _ ∙ rw (k .kind .given .1, o, ← e) (after-read _ _ _ _ _ _ (length f) f (like-section _ _ _ w) refl),
       rw (o, ← e) (on-in _ _ _ _ _ _ _ (w .rostered)),
     )
 

@@ -1,4 +1,4 @@
--- `days::play` is safe and ends. Assumes nothing.
+-- `day_plays::play` is safe and ends. Assumes nothing.
 use Prim.Native.Nat.{_-_}
 use borrow.Author.Needs.{needs}
 use Rattle.reckoning_days.proofs.pairs.play.Statement.{statement}

@@ -7,8 +7,8 @@ use lib.ListN.{length, drop, length-set}
 use borrow.Author.Needs.{needs}
 use Rattle.layouts.specs.Records.{serials}
 use Rattle.layouts.proofs.Lists.{laid-more}
-use Rattle.serial_bytes.proofs.decode.Statement.{statement}
-use Rattle.serial_bytes.proofs.decode.Tie as tie
+use Rattle.roster_bytes.proofs.decode.Statement.{statement}
+use Rattle.roster_bytes.proofs.decode.Tie as tie
 
 abbrev Inv-loop : tie.InvT-loop
 Inv-loop bytes at n list₀ i₀ list i = (i ≤ n) × (length list ≡ length list₀) × (list ≡ serials i (drop at bytes) ++ drop i list₀)

@@ -14,8 +14,10 @@ use Rattle.sets.specs.PlaceSets.{found}
 use Rattle.sets.specs.declared.Found.{Found}
 use Rattle.serials.specs.Rosters.{placeOf, placeFrom, firstRepeat}
 use Rattle.serials.proofs.Rosters.{place-from}
-use Rattle.layouts.specs.Layout.{Parsed, got, refused, then, check, wordAt, serial, isOn, placeOn, mournedSerials, mournedSection}
-use Rattle.layouts.proofs.Sections.{check-yes, check-no, byte-early, byte-got, serial-early, serial-zero, serial-got}
+use Rattle.layouts.specs.Layout.{Parsed, got, refused, then, check, serial, isOn, placeOn, mournedSerials, mournedSection}
+use Rattle.layouts.specs.Parts.{coded}
+use Rattle.layouts.proofs.Sections.{check-yes, check-no, byte-early, byte-got}
+use Rattle.layouts.proofs.Heads.{serial-fault, serial-read}
 
 -- on a roster with no repeat, looking along it finds a serial at its place
 pub found-along : (r : List ℕ) → firstRepeat [] r ≡ length r → (from x : ℕ) (f : Found) → f ≡ found (length r) (placeFrom from x r) → f ≡ found (length r) (placeOf x r)
@@ -73,18 +75,15 @@ module _ (alias : ℕ → ℕ) (s : List ℕ) (at m : ℕ) (r : List ℕ) (j low
       let q : m - j ≡ suc (m - (j + 1)) = omega arith in
       rw q
 
-  pub onwards-early : length s < at + j * 4 + 4 → onwards alias s at m r j low M ≡ refused 1
-  onwards-early h = step ∙ serial-early s (at + j * 4) next h
+  -- the serial there was read: it is x, or it has the fault f
+  module _ (f x : ℕ) (read : serial (drop (at + j * 4) s) ≡ coded f x (drop (at + j * 4 + 4) s)) where
+    pub onwards-fault : (f ≡ 0 → ⊥) → onwards alias s at m r j low M ≡ refused f
+    onwards-fault z = step ∙ serial-fault s (at + j * 4) f x read next z
 
-  -- x is the serial there
-  module _ (h : at + j * 4 + 4 ≤ length s) (x : ℕ) (w : x ≡ wordAt s (at + j * 4)) where
-    pub onwards-zero : x ≡ 0 → onwards alias s at m r j low M ≡ refused 4
-    onwards-zero z = step ∙ serial-zero s (at + j * 4) next h x w z
-
-    module _ (z : x ≡ 0 → ⊥) where
+    module _ (z : f ≡ 0) where
       pub onwards-strange : isOn alias r x ≡ false → onwards alias s at m r j low M ≡ refused 6
       unfolding next
-      onwards-strange e = step ∙ serial-got s (at + j * 4) next h x w z ∙ check-no _ 6 _ e
+      onwards-strange e = step ∙ serial-read s (at + j * 4) f x read next z ∙ check-no _ 6 _ e
 
       -- and `place` where it stands on the roster
       module _ (on : isOn alias r x ≡ true) (place : ℕ) (g : placeOn alias r x ≡ place) where
@@ -92,11 +91,11 @@ module _ (alias : ℕ → ℕ) (s : List ℕ) (at m : ℕ) (r : List ℕ) (j low
         unfolding next
         onwards-falling e =
             let d : placeOn alias r x < low = rw g e in
-            step ∙ serial-got s (at + j * 4) next h x w z ∙ check-yes _ 6 _ on ∙ check-no _ 7 _ (lt-leb _ _ d)
+            step ∙ serial-read s (at + j * 4) f x read next z ∙ check-yes _ 6 _ on ∙ check-no _ 7 _ (lt-leb _ _ d)
 
         pub onwards-more : (M' : Places) → M' ≡ with place M → low ≤ place → onwards alias s at m r j low M ≡ onwards alias s at m r (j + 1) (place + 1) M'
         unfolding next onwards
         onwards-more M' v e =
             let d : low ≤ placeOn alias r x = rw g e in
             let p : at + j * 4 + 4 ≡ at + (j + 1) * 4 = omega arith in
-            step ∙ serial-got s (at + j * 4) next h x w z ∙ check-yes _ 6 _ on ∙ check-yes _ 7 _ (le-leb _ _ d) ∙ rw (g, p, v, add-one place)
+            step ∙ serial-read s (at + j * 4) f x read next z ∙ check-yes _ 6 _ on ∙ check-yes _ 7 _ (le-leb _ _ d) ∙ rw (g, p, v, add-one place)

@@ -3,8 +3,8 @@ use mathlib.Core.Path.{ap}
 use borrow.Author.Needs.{needs}
 use Rattle.serials.specs.Seconds.{placeIn}
 use Rattle.serials.proofs.Seconds.{located}
-use Rattle.serial_bytes.proofs.locate.Statement.{statement}
-use Rattle.serial_bytes.proofs.locate.Tie as tie
+use Rattle.heads.proofs.locate.Statement.{statement}
+use Rattle.heads.proofs.locate.Tie as tie
 
 look-up-requires : tie.Need-look-up-requires
 look-up-requires c κs = search needs

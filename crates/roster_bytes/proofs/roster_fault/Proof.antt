@@ -5,8 +5,8 @@ use native.Mathlib.Omega.{arith}
 use lib.Seq.{length-take-le}
 use borrow.Author.Needs.{needs}
 use Rattle.layouts.proofs.Judging.{fault-there, fault-1, fault-0}
-use Rattle.serial_bytes.proofs.roster_fault.Statement.{statement}
-use Rattle.serial_bytes.proofs.roster_fault.Tie as tie
+use Rattle.roster_bytes.proofs.roster_fault.Statement.{statement}
+use Rattle.roster_bytes.proofs.roster_fault.Tie as tie
 
 slice-aggregate-first-fault : tie.Need-slice-aggregate-first-fault
 slice-aggregate-first-fault c = sym (length-take-le _ _ (c .before .before .pre))

@@ -3,9 +3,9 @@ use mathlib.Core.Path.{_∙_}
 use native.Mathlib.Omega.{arith}
 use borrow.Author.Needs.{needs}
 use Rattle.layouts.specs.Parts.{mournedOf, tailOf}
-use Rattle.tails.proofs.Mournings.{mourned-early, mourned-many, mourned-counted}
-use Rattle.tails.proofs.read_tail.Statement.{statement}
-use Rattle.tails.proofs.read_tail.Tie as tie
+use Rattle.readings.proofs.Mournings.{mourned-early, mourned-many, mourned-counted}
+use Rattle.readings.proofs.read_tail.Statement.{statement}
+use Rattle.readings.proofs.read_tail.Tie as tie
 
 returns : tie.Need-returns
 unfolding tailOf

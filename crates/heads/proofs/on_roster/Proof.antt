@@ -1,13 +1,8 @@
--- `records::on_roster` meets its contract. Assumes nothing.
-use mathlib.Core.Path.{sym}
-use lib.Seq.{length-take-le}
+-- `heads::on_roster` meets its contract. Assumes nothing.
 use borrow.Author.Needs.{needs}
 use Rattle.layouts.proofs.Heads.{own-lost, own-found}
-use Rattle.serial_bytes.proofs.on_roster.Statement.{statement}
-use Rattle.serial_bytes.proofs.on_roster.Tie as tie
-
-slice-aggregate-locate : tie.Need-slice-aggregate-locate
-slice-aggregate-locate c = sym (length-take-le _ _ (c .before .before .before .before .pre))
+use Rattle.heads.proofs.on_roster.Statement.{statement}
+use Rattle.heads.proofs.on_roster.Tie as tie
 
 locate-requires : tie.Need-locate-requires
 locate-requires c κs = search needs
@@ -27,4 +22,4 @@ returns-2 c = own-found _ _ _ _ _ _ _ (c .before .before .before .locate .ensure
 pub on-roster-spec : {M : Type 1} → statement M
 on-roster-spec =
     tie.close
-    (tie.spec slice-aggregate-locate locate-requires enum-known-place enum-told returns returns-2)
+    (tie.spec locate-requires enum-known-place enum-told returns returns-2)

@@ -1,8 +1,8 @@
--- `records::read_roster` meets its contract. Assumes nothing.
+-- `records::read_serials` meets its contract. Assumes nothing.
 use borrow.Author.Needs.{needs}
 use Rattle.layouts.proofs.Judging.{roster-parsed, roster-rostered}
-use Rattle.heads.proofs.read_roster.Statement.{statement}
-use Rattle.heads.proofs.read_roster.Tie as tie
+use Rattle.roster_bytes.proofs.read_serials.Statement.{statement}
+use Rattle.roster_bytes.proofs.read_serials.Tie as tie
 
 serials-there-requires : tie.Need-serials-there-requires
 serials-there-requires c κs = search needs
@@ -24,6 +24,6 @@ returns c =
       roster-rostered (a .bytes .now) (a .at) (a .count) (t .result) (a .list .now) _ (t .ensures .0) (t .ensures .1) (t .ensures .2) (s .pre .1) (d .ensures) (f .result) (f .ensures),
     )
 
-pub read-roster-spec : {M : Type 1} → statement M
-read-roster-spec =
+pub read-serials-spec : {M : Type 1} → statement M
+read-serials-spec =
     tie.close (tie.spec serials-there-requires decode-requires roster-fault-requires returns)

@@ -3,8 +3,8 @@ use mathlib.Core.Path.{sym}
 use native.Mathlib.Omega.{arith}
 use borrow.Author.Needs.{needs}
 use Rattle.layouts.proofs.Readings.{read-no-head, read-no-tail, read-whole}
-use Rattle.tails.proofs.read_rest.Statement.{statement}
-use Rattle.tails.proofs.read_rest.Tie as tie
+use Rattle.readings.proofs.read_rest.Statement.{statement}
+use Rattle.readings.proofs.read_rest.Tie as tie
 
 enum-known-head : tie.Need-enum-known-head
 enum-known-head c = search needs

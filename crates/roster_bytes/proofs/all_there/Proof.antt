@@ -2,8 +2,8 @@
 use mathlib.Core.Path.{sym}
 use borrow.Author.Needs.{needs}
 use Rattle.layouts.proofs.Lists.{past-there, room-there}
-use Rattle.serial_bytes.proofs.all_there.Statement.{statement}
-use Rattle.serial_bytes.proofs.all_there.Tie as tie
+use Rattle.roster_bytes.proofs.all_there.Statement.{statement}
+use Rattle.roster_bytes.proofs.all_there.Tie as tie
 
 returns : tie.Need-returns
 returns c = sym (past-there _ _ _ (c .if1 .taken))
