@@ -1,4 +1,5 @@
--- `Fetches` has what the number of fetches means, `Records` that an absent place has a record that is taken. The rest are laws for each way in which the code returns.
+-- `Fetches` has what the number of fetches means, `Records` that an absent place has a record that is taken, `FetchCases` what is told in the cases
+-- of `histories`. The rest are laws for each way in which the code returns.
 pub mod Views
 pub mod Walks
 pub mod Answers
@@ -6,6 +7,7 @@ pub mod Groups
 pub mod ShowCases
 pub mod Laying
 pub mod Lists
+pub mod FetchCases
 pub mod Gathering
 pub mod Fetches
 pub mod Records

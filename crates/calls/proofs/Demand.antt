@@ -17,7 +17,6 @@ use Rattle.histories.specs.declared.Kind.{Kind}
 use Rattle.histories.specs.Histories.{Row, History, Accepted, lay, Fits, Disagree}
 use Rattle.histories.specs.Rule.{Answer, is_last, not_last, is_open, answer, recorded, second, accepts, fits_test, settled}
 use Rattle.histories.specs.Kept.{answer_by}
-use Rattle.histories.proofs.Shown.{shown_open_lem}
 use Rattle.histories.proofs.Exact.{none_fitted, exact, settled_iff, unsettled, unmourned_iff, unmourned_absent_iff}
 use Rattle.histories.proofs.Accepts.{accepts_iff}
 use Rattle.histories.proofs.Checks.{fits_iff}
@@ -144,7 +143,7 @@ module _ {roster : List ℕ} {r : Recovery} (g : Good roster r) where
           let u : 16 * n ≤ length a = omega arith in
           let v : 16 * n ≤ length b = omega arith in
           rw (kept_shown g.held g.fits i a b l e u v)
-          (showed l u v d (shown_open_lem g.fits i e) (holds (recorded (accepted_of r)) a u d.first_fits.history.inside) (holds (second n (accepted_of r) i) b v d.second_fits.history.inside))
+          (showed l u v d (holds (recorded (accepted_of r)) a u d.first_fits.history.inside) (holds (second n (accepted_of r) i) b v d.second_fits.history.inside))
 
   show_step : (i : ℕ) (a b : List ℕ) → Dictates roster (ledger_of r) (show i a b) (shown_gives (shown r i a b)) (ledger_of r)
   unfolding unshown shown_gives showing_says
@@ -515,12 +514,12 @@ module _ {roster : List ℕ} {r : Recovery} (g : Good roster r) where
 pub good_after : {roster : List ℕ} {r : Recovery} → Good roster r → (cs : List Call) → Good roster (left r cs)
 unfolding left
 good_after g [] = g
-good_after g (c ∷ cs) = good_after (good_next g c) cs
+good_after {roster = roster} {r = r} g (c ∷ cs) = good_after {r = next r c} (good_next g c) cs
 
 pub demand_from : {roster : List ℕ} {r : Recovery} → Good roster r → (cs : List Call) → Whole roster (ledger_of r) cs (run r cs)
 unfolding run
 demand_from g [] = end
-demand_from g (c ∷ cs) = then (step g c) (demand_from (good_next g c) cs)
+demand_from {roster = roster} {r = r} g (c ∷ cs) = then (step g c) (demand_from {r = next r c} (good_next g c) cs)
 
 -- ---- from an opening on
 

@@ -20,7 +20,7 @@ use Rattle.calls.specs.declared.Recovery.{Recovery}
 use Rattle.calls.specs.Promises.{accepted_of}
 use Rattle.calls.specs.Demand as D
 use Rattle.calls.specs.Demand.{Ledger, Call, offer, ask, show, whole, Outcome, says, lent, OfGroup, Dictates, faulty, foreign, repeats, differs, takes, none_fits, asked_off, asked_last, asked_not, asked_open, showed_off, showed_decided, showed_short, showed, checked_short, checked_off, checked_fits, checked_not, whole_settled, whole_open, fetched_none, fetched_next, gave_unmourned, gave_absent, gave_count, found_first, found_second, found_none, gave_off, gave_zero, gave_known, gave, wrote_off, wrote_absent, wrote_short, wrote, listed_short, listed_all}
-use Rattle.calls.specs.Run.{left}
+use Rattle.calls.specs.Run.{left, next}
 use Rattle.calls.proofs.Demand.{Good, step, good_next}
 use Rattle.calls.proofs.Single.{read_clash, same_record}
 
@@ -40,7 +40,7 @@ grows (asked_open a b) = within_self
 grows (showed_off a) = within_self
 grows (showed_decided a b) = within_self
 grows (showed_short a b d) = within_self
-grows (showed a b d f m n p) = within_self
+grows (showed a b d f m n) = within_self
 grows (checked_short a) = within_self
 grows (checked_off a b d f m) = within_self
 grows (checked_fits a b) = within_self
@@ -78,7 +78,7 @@ offers_none (none_fits a b d) = refl
 pub within_left : {roster : List ℕ} {r : Recovery} → Good roster r → (cs : List Call) → Within (accepted_of r) (accepted_of (left r cs))
 unfolding left
 within_left g [] = within_self
-within_left g (c ∷ cs) = within_trans (grows (step g c)) (within_left (good_next g c) cs)
+within_left {roster = roster} {r = r} g (c ∷ cs) = within_trans (grows (step g c)) (within_left {r = next r c} (good_next g c) cs)
 
 -- ---- what is said of a place
 
@@ -101,14 +101,14 @@ pub decided_elim : {roster : List ℕ} {A B : Ledger} {i : ℕ} {a b c d : List 
 decided_elim (showed_off l) e = let z : ◌≡◌ {A = ℕ} 0 1 = cc in absurd (omega arith)
 decided_elim (showed_decided l a) e = (l, a)
 decided_elim (showed_short l d s) e = let z : ◌≡◌ {A = ℕ} 0 1 = cc in absurd (omega arith)
-decided_elim (showed l u v d h x y) e = let z : ◌≡◌ {A = ℕ} 0 1 = cc in absurd (omega arith)
+decided_elim (showed l u v d x y) e = let z : ◌≡◌ {A = ℕ} 0 1 = cc in absurd (omega arith)
 
 pub decided_intro : {roster : List ℕ} {A B : Ledger} {i : ℕ} {a b : List ℕ} {o : Outcome} → Dictates roster A (show i a b) o B → i < length roster
     → Decided (length roster) A.accepted i → o ≡ lent D.decided a b
 decided_intro (showed_off l) m w = absurd (omega arith)
 decided_intro (showed_decided l a) m w = refl
 decided_intro (showed_short l d s) m w = decided_open w d
-decided_intro (showed l u v d h x y) m w = decided_open w d
+decided_intro (showed l u v d x y) m w = decided_open w d
 
 pub settled_iff : {roster : List ℕ} {A B : Ledger} {o : Outcome} → Dictates roster A whole o B
     → (o ≡ says D.settled) ↔ ((i : ℕ) → i < length roster → Decided (length roster) A.accepted i)

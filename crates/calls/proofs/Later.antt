@@ -154,9 +154,9 @@ pub agreeing_accepted : {roster : List ℕ} {r : Recovery} {H : History} {K : �
     → (xs : List (List ℕ)) → ((x : List ℕ) → Memᴰ x xs → Agrees roster (seconds_of r) H K x) → Accepts r xs × Model roster H K (left r (offers xs))
 unfolding left run.next
 agreeing_accepted g f [] a = (all, f)
-agreeing_accepted {roster} {H = H} {K = K} g f (x ∷ xs) a =
+agreeing_accepted {roster = roster} {r = r} {H = H} {K = K} g f (x ∷ xs) a =
     let w = offered_agrees g x f (a x (Memᴰ.head refl)) in
-    let v = agreeing_accepted (offered_good g x) w.1 xs (λ y m. subst (λ (s : List ℕ). Agrees roster s H K y) (sym (offered_seconds g x)) (a y (Memᴰ.tail m))) in
+    let v = agreeing_accepted {r = (offered r x).recovery} (offered_good g x) w.1 xs (λ y m. subst (λ (s : List ℕ). Agrees roster s H K y) (sym (offered_seconds g x)) (a y (Memᴰ.tail m))) in
     (next w.0 v.0, v.1)
 
 -- records that are all accepted agree with every history and kinds that they leave possible, and these were possible before
@@ -278,7 +278,7 @@ module _ {roster : List ℕ} {r s : Recovery} (g : Good roster r) (h : Good rost
 offers_left : {roster : List ℕ} {r : Recovery} → Good roster r → (xs : List (List ℕ)) → seconds_of (left r (offers xs)) ≡ seconds_of r
 unfolding left run.next
 offers_left g [] = refl
-offers_left g (x ∷ xs) = offers_left (offered_good g x) xs ∙ offered_seconds g x
+offers_left {roster = roster} {r = r} g (x ∷ xs) = offers_left {r = (offered r x).recovery} (offered_good g x) xs ∙ offered_seconds g x
 
 module _ {roster : List ℕ} {r : Recovery} (g : Good roster r) {xs ys : List (List ℕ)} where
   -- of records that are all accepted, any are accepted in any order, however often

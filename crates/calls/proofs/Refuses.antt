@@ -16,7 +16,7 @@ use Rattle.layouts.proofs.Layouts.{AllBytes}
 use Rattle.calls.specs.Demand.{Free, begun, Outcome, says, lent, lent_one, places, number, Whole}
 use Rattle.calls.proofs.Acceptance.{serials, group, record_101, record_104, record_102, full_103, row, first_rows, second_rows, outcome_of, call_of, lines, listing}
 use Rattle.calls.proofs.Demand.{demand_3}
-use Rattle.calls.proofs.Single.{InBytes, AllInBytes, single_whole}
+use Rattle.calls.proofs.Single.{plain, InBytes, AllInBytes, single_whole}
 
 -- ---- the listing's group
 
@@ -73,5 +73,5 @@ listing_dictated : Whole serials (begun serials) (map call_of lines) (map outcom
 listing_dictated = subst (Whole serials (begun serials) (map call_of lines)) listing (demand_3 serials free (map call_of lines)).1
 
 pub listing_only : {os : List Outcome} → Whole serials (begun serials) (map call_of lines) os → AllInBytes os
-    → os ≡ map outcome_of lines
+    → map (plain (length serials)) os ≡ map (plain (length serials)) (map outcome_of lines)
 listing_only w c = single_whole free.sound w listing_dictated c listing_in

@@ -1,4 +1,4 @@
--- One outcome is dictated to a call, in bytes, and one set of records after it. Assumes nothing.
+-- One outcome is dictated to a call, but for the rows of two shown histories, and one set of records after it. Assumes nothing.
 use mathlib.Core.Path.{◌≡◌, refl, sym, ap, ap₂, ◌∙◌, subst, fun_ext}
 use mathlib.Core.Bool.{Bool, true, false, cond}
 use mathlib.Core.Logic.{◌⊎◌, inl, inr, ◌↔◌}
@@ -12,8 +12,6 @@ use Rattle.sets.specs.Sets.{count}
 use Rattle.sets.proofs.Booleans.{clash, both_ways}
 use Rattle.histories.specs.Histories.{Row, History, Accepted, lay, Fits}
 use Rattle.histories.proofs.Exact.{none_fitted, all_none, all_open, none_open_lem, decided_open}
-use Rattle.histories.proofs.Shown.{shown_one}
-use Rattle.rows.proofs.Laws.{rows_tell}
 use Rattle.answers.specs.Fetches.{MayHaveHeard}
 use Rattle.serials.specs.Rosters.{IsRoster}
 use Rattle.serials.specs.Seconds.{counts_as, itself}
@@ -22,10 +20,40 @@ use Rattle.layouts.specs.Layout as L
 use Rattle.layouts.proofs.Layouts.{AllBytes, bytes_drop}
 use Rattle.layouts.proofs.Trips.{layout_read}
 use Rattle.calls.specs.Demand as D
-use Rattle.calls.specs.Demand.{Said, refused, Call, Ledger, begun, KnownSerial, AreSeconds, Outcome, says, lent, lent_one, places, number, OfGroup, SameRecord, Mourned, Unmourned, Holds, record_in, end_in, ByteOf, byte_not, byte_last, byte_open, Dictates, faulty, foreign, repeats, differs, takes, none_fits, asked_off, asked_last, asked_not, asked_open, showed_off, showed_decided, showed_short, showed, checked_short, checked_off, checked_fits, checked_not, whole_settled, whole_open, fetched_none, fetched_next, gave_unmourned, gave_absent, gave_count, found_first, found_second, found_none, gave_off, gave_zero, gave_known, gave, wrote_off, wrote_absent, wrote_short, wrote, listed_short, listed_all, Whole, end, then}
+use Rattle.calls.specs.Demand.{Said, refused, Call, Ledger, begun, KnownSerial, AreSeconds, Outcome, says, lent, lent_one, places, number, OfGroup, SameRecord, Mourned, Unmourned, record_in, end_in, ByteOf, byte_not, byte_last, byte_open, Dictates, faulty, foreign, repeats, differs, takes, none_fits, asked_off, asked_last, asked_not, asked_open, showed_off, showed_decided, showed_short, showed, checked_short, checked_off, checked_fits, checked_not, whole_settled, whole_open, fetched_none, fetched_next, gave_unmourned, gave_absent, gave_count, found_first, found_second, found_none, gave_off, gave_zero, gave_known, gave, wrote_off, wrote_absent, wrote_short, wrote, listed_short, listed_all, Whole, end, then}
 use Rattle.calls.proofs.Swaps.{seconds_none, seconds_noted}
 
 -- ---- outcomes
+
+unfoldable pub showing : Said → Bool
+showing D.opened = false
+showing D.taken = false
+showing D.repeated = false
+showing D.is_last = false
+showing D.not_last = false
+showing D.is_open = false
+showing D.decided = false
+showing D.shown = true
+showing D.fits = false
+showing D.fits_not = false
+showing D.settled = false
+showing D.unsettled = false
+showing D.given = false
+showing D.not_found = false
+showing D.listed = false
+showing (D.first_of p) = false
+showing (D.second_of p) = false
+showing (D.ends e) = false
+showing (D.fetches k p) = false
+showing (refused j) = false
+
+-- forgets the rows of two histories that are shown, for a roster of n, and nothing else
+unfoldable pub plain : ℕ → Outcome → Outcome
+plain n (says s) = says s
+plain n (lent s a b) = cond (showing s) (lent s (drop (16 * n) a) (drop (16 * n) b)) (lent s a b)
+plain n (lent_one s b) = lent_one s b
+plain n (places S) = places S
+plain n (number m) = number m
 
 -- lent buffers are bytes
 abbrev pub InBytes : Outcome → Type 0
@@ -157,17 +185,12 @@ same_buffer n a b e d h = ext_get_or 0 a b e (λ i _. go i (dec_lt i n))
         let k : n + (i - n) ≡ i = omega arith in
         ap (λ (j : ℕ). get_or a j 0) (sym k) ∙ sym (get_or-drop n a (i - n) 0) ∙ ap (λ (x : List ℕ). get_or x (i - n) 0) d ∙ get_or-drop n b (i - n) 0 ∙ ap (λ (j : ℕ). get_or b j 0) k
 
--- the rows of one history, laid into one buffer, are the same bytes
-same_rows : {n : ℕ} {old a b : List ℕ} {F G : History} → 16 * n ≤ length old → Holds n old a F → Holds n old b G → AllBytes a → AllBytes b → F ≡ G → a ≡ b
-same_rows {n} {old} {a} {b} u x y c d e =
-    rows_tell n a b (λ i _. c i) (λ i _. d i) (omega (arith, x.same_length)) (omega (arith, y.same_length))
-    (λ p q. x.is_history p q ∙ ap (λ (H : History). H p q) e ∙ sym (y.is_history p q)) (x.same_rest ∙ sym y.same_rest)
-
 -- ---- the theorem
 
 pub single : {roster : List ℕ} {A : Ledger} {H : History} → Fits (length roster) A.accepted H → Sound roster A.seconds
     → {c : Call} {o₁ o₂ : Outcome} {B₁ B₂ : Ledger} → Dictates roster A c o₁ B₁ → Dictates roster A c o₂ B₂ → InBytes o₁ → InBytes o₂
-    → (o₁ ≡ o₂) × (B₁ ≡ B₂)
+    → (plain (length roster) o₁ ≡ plain (length roster) o₂) × (B₁ ≡ B₂)
+unfolding plain showing
 single f s (faulty e₁ l₁ m₁) (faulty e₂ l₂ m₂) c₁ c₂ = (ap (λ (j : ℕ). says (refused j)) (same_fault e₁ e₂), refl)
 single f s (faulty e₁ l₁ m₁) (foreign e₂ z₂) c₁ c₂ = read_clash e₁ e₂
 single f s (faulty e₁ l₁ m₁) (repeats s₂ b₂ q₂) c₁ c₂ = read_clash e₁ s₂.reads
@@ -223,21 +246,20 @@ single f s (asked_open x₁ d₁) (asked_open x₂ d₂) c₁ c₂ = (refl, refl
 single f s (showed_off x₁) (showed_off x₂) c₁ c₂ = (refl, refl)
 single f s (showed_off x₁) (showed_decided x₂ w₂) c₁ c₂ = off x₁ x₂
 single f s (showed_off x₁) (showed_short x₂ d₂ s₂) c₁ c₂ = off x₁ x₂
-single f s (showed_off x₁) (showed x₂ u₂ v₂ d₂ h₂ y₂ k₂) c₁ c₂ = off x₁ x₂
+single f s (showed_off x₁) (showed x₂ u₂ v₂ d₂ y₂ k₂) c₁ c₂ = off x₁ x₂
 single f s (showed_decided x₁ w₁) (showed_off x₂) c₁ c₂ = off x₂ x₁
 single f s (showed_decided x₁ w₁) (showed_decided x₂ w₂) c₁ c₂ = (refl, refl)
 single f s (showed_decided x₁ w₁) (showed_short x₂ d₂ s₂) c₁ c₂ = decided_open w₁ d₂
-single f s (showed_decided x₁ w₁) (showed x₂ u₂ v₂ d₂ h₂ y₂ k₂) c₁ c₂ = decided_open w₁ d₂
+single f s (showed_decided x₁ w₁) (showed x₂ u₂ v₂ d₂ y₂ k₂) c₁ c₂ = decided_open w₁ d₂
 single f s (showed_short x₁ d₁ s₁) (showed_off x₂) c₁ c₂ = off x₂ x₁
 single f s (showed_short x₁ d₁ s₁) (showed_decided x₂ w₂) c₁ c₂ = decided_open w₂ d₁
 single f s (showed_short x₁ d₁ s₁) (showed_short x₂ d₂ s₂) c₁ c₂ = (refl, refl)
-single f s (showed_short x₁ d₁ s₁) (showed x₂ u₂ v₂ d₂ h₂ y₂ k₂) c₁ c₂ = room s₁ u₂ v₂
-single f s (showed x₁ u₁ v₁ d₁ h₁ y₁ k₁) (showed_off x₂) c₁ c₂ = off x₂ x₁
-single f s (showed x₁ u₁ v₁ d₁ h₁ y₁ k₁) (showed_decided x₂ w₂) c₁ c₂ = decided_open w₂ d₁
-single f s (showed x₁ u₁ v₁ d₁ h₁ y₁ k₁) (showed_short x₂ d₂ s₂) c₁ c₂ = room s₂ u₁ v₁
-single f s (showed x₁ u₁ v₁ d₁ h₁ y₁ k₁) (showed x₂ u₂ v₂ d₂ h₂ y₂ k₂) c₁ c₂ =
-    let e = shown_one h₁ h₂ in
-    (ap₂ (λ (a b : List ℕ). lent D.shown a b) (same_rows u₁ y₁ y₂ c₁.0 c₂.0 e.0) (same_rows v₁ k₁ k₂ c₁.1 c₂.1 e.1), refl)
+single f s (showed_short x₁ d₁ s₁) (showed x₂ u₂ v₂ d₂ y₂ k₂) c₁ c₂ = room s₁ u₂ v₂
+single f s (showed x₁ u₁ v₁ d₁ y₁ k₁) (showed_off x₂) c₁ c₂ = off x₂ x₁
+single f s (showed x₁ u₁ v₁ d₁ y₁ k₁) (showed_decided x₂ w₂) c₁ c₂ = decided_open w₂ d₁
+single f s (showed x₁ u₁ v₁ d₁ y₁ k₁) (showed_short x₂ d₂ s₂) c₁ c₂ = room s₂ u₁ v₁
+single f s (showed x₁ u₁ v₁ d₁ y₁ k₁) (showed x₂ u₂ v₂ d₂ y₂ k₂) c₁ c₂ =
+    (ap₂ (λ (a b : List ℕ). lent D.shown a b) (y₁.same_rest ∙ sym y₂.same_rest) (k₁.same_rest ∙ sym k₂.same_rest), refl)
 single f s (checked_short s₁) (checked_short s₂) c₁ c₂ = (refl, refl)
 single f s (checked_short s₁) (checked_off p₂ q₂ l₂ t₂ h₂) c₁ c₂ = off l₂ s₁
 single f s (checked_short s₁) (checked_fits l₂ f₂) c₁ c₂ = off l₂ s₁
@@ -334,7 +356,7 @@ left_fits {H = H} f (asked_open a b) = (H, f)
 left_fits {H = H} f (showed_off a) = (H, f)
 left_fits {H = H} f (showed_decided a b) = (H, f)
 left_fits {H = H} f (showed_short a b d) = (H, f)
-left_fits {H = H} f (showed a b d e m n p) = (H, f)
+left_fits {H = H} f (showed a b d e m n) = (H, f)
 left_fits {H = H} f (checked_short a) = (H, f)
 left_fits {H = H} f (checked_off a b d e m) = (H, f)
 left_fits {H = H} f (checked_fits a b) = (H, f)
@@ -375,7 +397,7 @@ left_seconds s (asked_open a b) = s
 left_seconds s (showed_off a) = s
 left_seconds s (showed_decided a b) = s
 left_seconds s (showed_short a b d) = s
-left_seconds s (showed a b d e m n p) = s
+left_seconds s (showed a b d e m n) = s
 left_seconds s (checked_short a) = s
 left_seconds s (checked_off a b d e m) = s
 left_seconds s (checked_fits a b) = s
@@ -402,7 +424,7 @@ left_seconds s (listed_short a) = s
 left_seconds s (listed_all a b d e) = s
 
 single_from : {roster : List ℕ} {A : Ledger} {H : History} → Fits (length roster) A.accepted H → Sound roster A.seconds → {cs : List Call} {os₁ os₂ : List Outcome}
-    → Whole roster A cs os₁ → Whole roster A cs os₂ → AllInBytes os₁ → AllInBytes os₂ → os₁ ≡ os₂
+    → Whole roster A cs os₁ → Whole roster A cs os₂ → AllInBytes os₁ → AllInBytes os₂ → map (plain (length roster)) os₁ ≡ map (plain (length roster)) os₂
 single_from f s end end c₁ c₂ = refl
 single_from {roster} f s (then {cs = cs} d₁ w₁) (then {os = os} d₂ w₂) c₁ c₂ =
     let e = single f s d₁ d₂ c₁.0 c₂.0 in
@@ -411,5 +433,5 @@ single_from {roster} f s (then {cs = cs} d₁ w₁) (then {os = os} d₂ w₂) c
 
 -- so a list of calls from the opening on has one list of outcomes
 pub single_whole : {roster : List ℕ} → IsRoster roster → {cs : List Call} {os₁ os₂ : List Outcome}
-    → Whole roster (begun roster) cs os₁ → Whole roster (begun roster) cs os₂ → AllInBytes os₁ → AllInBytes os₂ → os₁ ≡ os₂
+    → Whole roster (begun roster) cs os₁ → Whole roster (begun roster) cs os₂ → AllInBytes os₁ → AllInBytes os₂ → map (plain (length roster)) os₁ ≡ map (plain (length roster)) os₂
 single_whole {roster} s = single_from (none_fitted (length roster)) (record { roster = s; seconds = seconds_none roster s.no_zero })

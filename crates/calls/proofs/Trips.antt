@@ -29,7 +29,7 @@ use Rattle.calls.proofs.Calls.{written_at_lem}
 use Rattle.calls.proofs.Keeps.{returned_on}
 use Rattle.calls.proofs.Demand.{Good, is_size, is_alias, record_is, record_stored, step, good_next, good_after, good_left}
 use Rattle.calls.proofs.Dictated.{within_left}
-use Rattle.calls.proofs.Single.{single}
+use Rattle.calls.proofs.Single.{plain, single}
 
 -- ---- a record taken is written in first serials: as its own bytes, if it came so
 
@@ -160,7 +160,7 @@ module _ {roster : List ℕ} (f : Free roster) (cs : List Call) (p : ℕ) (b : (
 -- what was shown
 shown_holds : {roster : List ℕ} {A B : Ledger} {i : ℕ} {a b a' b' : List ℕ} → Dictates roster A (show i a b) (lent D.shown a' b') B
     → (F : History) × (G : History) × (16 * length roster ≤ length a) × (16 * length roster ≤ length b) × Disagree (length roster) A.accepted i F G × Holds (length roster) a a' F × Holds (length roster) b b' G
-shown_holds (showed {F = F} {G = G} x u v d h y z) = (F, G, u, v, d, y, z)
+shown_holds (showed {F = F} {G = G} x u v d y z) = (F, G, u, v, d, y, z)
 
 fits_said : (c : Checked) → checked_says c ≡ D.fits → c ≡ C.Fits
 unfolding checked_says
@@ -171,7 +171,7 @@ fits_said (C.Refused j) e = let z : ◌≡◌ {A = ℕ} 0 1 = cc in absurd (omeg
 module _ {roster : List ℕ} {r : Recovery} (g : Good roster r) where
   -- a buffer whose rows fit
   fits_checked : (h : List ℕ) → 16 * length roster ≤ length h → Fits (length roster) (accepted_of r) (history_in (length roster) h) → checked r h ≡ C.Fits
-  unfolding outcome
+  unfolding outcome plain
   fits_checked h l f = fits_said (checked r h) (said (single g.fits (record { roster = g.sound; seconds = g.given }) (step g (check h)) (checked_fits l f) tt tt).0)
     where
       said : says (checked_says (checked r h)) ≡ says D.fits → checked_says (checked r h) ≡ D.fits

@@ -3,7 +3,7 @@
 use Rattle.std.specs.Prelude.{◌≡◌, true, false, ◌⊎◌, ◌↔◌, List, [], ◌∷◌, ℕ, ◌+◌, ◌*◌, ◌^◌, ◌<◌, ◌≤◌, length, get_or, set, take, drop, replicate}
 use Rattle.sets.specs.Sets.{count}
 use Rattle.histories.specs.declared.Kind.{Kind}
-use Rattle.histories.specs.Histories.{Row, History, Accepted, none, lay, Fits, LastInAll, LastInNone, Decided, Disagree, ShownOf}
+use Rattle.histories.specs.Histories.{Row, History, Accepted, none, lay, Fits, LastInAll, LastInNone, Decided, Disagree}
 use Rattle.answers.specs.Fetches.{MayHaveHeard}
 use Rattle.serials.specs.Rosters.{IsRoster}
 use Rattle.serials.specs.Seconds.{counts_as, itself}
@@ -163,7 +163,7 @@ pub data Dictates (roster : List ℕ) : Ledger → Call → Outcome → Ledger �
   showed_short : {A : Ledger} {i : ℕ} {a b : List ℕ} {F G : History} → i < length roster → Disagree (length roster) A.accepted i F G
       → (length a < 16 * length roster) ⊎ (length b < 16 * length roster) → Dictates roster A (show i a b) (lent (refused 13) a b) A
   showed : {A : Ledger} {i : ℕ} {a b a' b' : List ℕ} {F G : History} → i < length roster → 16 * length roster ≤ length a → 16 * length roster ≤ length b
-      → Disagree (length roster) A.accepted i F G → ShownOf (length roster) A.accepted i F G → Holds (length roster) a a' F → Holds (length roster) b b' G
+      → Disagree (length roster) A.accepted i F G → Holds (length roster) a a' F → Holds (length roster) b b' G
       → Dictates roster A (show i a b) (lent shown a' b') A
   checked_short : {A : Ledger} {h : List ℕ} → length h < 16 * length roster → Dictates roster A (check h) (says (refused 13)) A
   checked_off : {A : Ledger} {h : List ℕ} (p q : ℕ) → 16 * length roster ≤ length h → history_in (length roster) h p q ≡ true → length roster ≤ q

@@ -1,10 +1,10 @@
 -- What the check's functions say of the definitions: a law for each loop's step and for each return. Sets only by their members.
 -- Assumes nothing.
 use mathlib.Core.Path.{◌≡◌, refl, sym, ap, ap₂, ◌∙◌, fun_ext}
-use mathlib.Core.Bool.{Bool, true, false, not, ◌&&◌, ◌||◌, and-true, and-false, not-not}
+use mathlib.Core.Bool.{Bool, true, false, not, cond, ◌&&◌, ◌||◌, and-true, and-false, not-not}
 use mathlib.Core.Logic.{◌⊎◌, inl, inr}
 use mathlib.Core.List.{List}
-use Prim.Native.Nat.{ℕ, zero, suc, ◌+◌, ◌<◌, ◌≤◌}
+use Prim.Native.Nat.{ℕ, zero, suc, ◌+◌, ◌*◌, ◌<◌, ◌≤◌}
 use native.Mathlib.Omega.{arith}
 use native.Mathlib.Numerals.{add-one}
 use lib.Dec.{leb, ltb}
@@ -13,17 +13,19 @@ use Rattle.sets.specs.Sets.{Places, nothing, only, below, union, intersection, d
 use Rattle.sets.specs.PlaceSets.{has, kept}
 use Rattle.sets.specs.declared.PlaceSet.{PlaceSet}
 use Rattle.sets.proofs.Booleans.{clash, split, is_false, both_ways, and_intro, and_left, and_right, implies_intro, minus_elim, minus_intro}
-use Rattle.sets.proofs.Tests.{any_elim, any_intro, all_intro, subset_elim, subset_intro, same_elim, same_intro}
-use Rattle.rows.specs.Rows.{row_at, rows_of, history_in}
+use Rattle.sets.proofs.Tests.{any_elim, any_intro, all_elim, all_intro, subset_elim, subset_intro, same_elim, same_intro}
+use Rattle.rows.specs.Rows.{row_at, rows_of, row_in, history_in}
 use Rattle.rows.proofs.Laws.{has_row}
 use Rattle.histories.specs.Histories.{History}
 use Rattle.histories.specs.Rule.{reach, full_back, duty_met, fits_test}
 use Rattle.answers.specs.Views.{size, accepted_in}
 use Rattle.answers.proofs.Views.{full_in}
 use Rattle.answers.specs.Checks.{off_roster}
-use Rattle.circles.proofs.Lent.{all_not}
 
 -- ---- tests of the places below n
+
+pub all_not : (n : ℕ) (S : Places) (p : ℕ) → p < n → S p ≡ false → all n S ≡ false
+all_not n S p l e = is_false (all n S) (λ t. clash (all_elim n S t p l) e)
 
 -- the tests depend on nothing but the places below n
 any_same : (n : ℕ) (A B : Places) → ((k : ℕ) → k < n → A k ≡ B k) → any n A ≡ any n B
@@ -39,6 +41,16 @@ all_same (suc n) A B h = ap₂ ◌&&◌ (h n (omega arith)) (all_same n A B (λ 
 -- the row that `rows::get` answers
 pub row_is : (w : List ℕ) (p : ℕ) (r : PlaceSet) → r ≡ row_at w p → has r ≡ rows_of w p
 row_is w p r e = ap has e ∙ has_row w p
+
+-- the row that `rows::read` answers, in the history of a roster
+pub lent_is : (n p : ℕ) (b : List ℕ) (r : PlaceSet) → p < n → has r ≡ row_in b (16 * p) → has r ≡ history_in n b p
+unfolding history_in
+lent_is n p b r l e = e ∙ fun_ext (λ q. rw (lt-ltb p n l))
+
+-- only places of the roster have a row in it
+pub lent_on : (n : ℕ) (b : List ℕ) (p q : ℕ) → history_in n b p q ≡ true → p < n
+unfolding history_in
+lent_on n b p q e = ltb-true p n (and_left (ltb p n) (row_in b (16 * p) q) e)
 
 -- a set where a test holds, else nothing
 pub all_spared : (b x : Bool) (S : Places) → x ≡ b → x ≡ true → S ≡ (λ q. b && S q)
@@ -209,12 +221,6 @@ module _ (n : ℕ) (T : Places) (s start left roster : PlaceSet) (small : n ≤ 
   each_fails m h f =
       let k = t.on m h in
       sym (all_not n (λ m. not (has s m) || T m) m k.0 (rw (sym (cut_at n s start roster small er es m k.0) ∙ k.1, f)))
-
--- ---- nobody is before itself, as the walk answers it
-
-pub apart_is : (count n : ℕ) (b : List ℕ) (r : Bool) → n ≡ size count → r ≡ all (size count) (λ p. not (reach (size count) (history_in (size count) b) p p))
-    → all n (λ p. not (reach n (history_in n b) p p)) ≡ r
-apart_is count n b r s e = rw s (sym e)
 
 -- ---- the whole test: the accepted records are looked at only on the roster
 

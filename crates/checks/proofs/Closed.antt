@@ -16,8 +16,7 @@ use Rattle.histories.specs.Histories.{Row, History, Before, heard, through}
 use Rattle.histories.specs.Rule.{reach}
 use Rattle.histories.proofs.Closure.{reach_heard, reach_trans, reach_sound}
 use Rattle.answers.specs.Checks.{Covered}
-use Rattle.checks.proofs.Checks.{Turns, turns_fewer, turns_next, turns_end, cut_at}
-use Rattle.circles.proofs.Lent.{all_not}
+use Rattle.checks.proofs.Checks.{Turns, turns_fewer, turns_next, turns_end, cut_at, all_not}
 
 -- the members of the row of p are covered
 abbrev pub AllCovered : ℕ → History → Row → ℕ → Type 0

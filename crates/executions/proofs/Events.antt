@@ -18,7 +18,7 @@ use Rattle.executions.specs.declared.Played.{Played}
 use Rattle.executions.specs.Executions.{Execution, morning, stop_fault, hear_fault, fault, listeners, noting, happening}
 use Rattle.executions.specs.Promises.{execution_of, starting, played}
 use Rattle.executions.specs.Events.{IsStop, IsHear, Stopped, Notes, Heard, Meets, stop_off, stop_again, stop_allowed, hear_off, hear_late, hear_early, hear_allowed, no_event, AllAllowed}
-use Rattle.executions.specs.Finished.{Refuses, AsPlayed}
+use Rattle.executions.specs.ByEvents.{Refuses, AsPlayed}
 use Rattle.executions.proofs.Executed.{Allowed, stops, hears, allowed, after_stop, after_hear, happening_stop, happening_hear, noting_cases, noting_old, noting_new}
 use Rattle.executions.proofs.Days.{starting_execution}
 use Rattle.executions.proofs.Plays as plays

@@ -6,7 +6,7 @@ use mathlib.Core.List.Memᴰ
 use mathlib.Core.List.{List, [], ◌∷◌, ◌++◌, map, Memᴰ}
 use Prim.Native.Nat.{ℕ, zero, suc, ◌+◌, ◌^◌, ◌<◌, ◌≤◌}
 use native.Mathlib.Omega.{arith}
-use lib.ListN.{length, get_or, take, length-append}
+use lib.ListN.{length, get_or, length-append}
 use lib.Dec.{eqb}
 use borrow.Author.Tests.{lt-ltb, le-leb, eqb-true}
 use Rattle.sets.specs.Sets.{any}
@@ -20,9 +20,9 @@ use Rattle.serials.specs.Rosters.{IsRoster, listed}
 use Rattle.serials.specs.declared.Listed.{Listed}
 use Rattle.serials.specs.declared.Listed.TheVariants as L
 use Rattle.serials.proofs.Rosters.{listed_sound}
-use Rattle.serials.specs.Seconds.{counts_as, itself}
+use Rattle.serials.specs.Seconds.{counts_as}
 use Rattle.layouts.specs.declared.Writing.TheVariants as W
-use Rattle.layouts.specs.Layout.{got, known_kind, kind_of, Stored, lone, layout}
+use Rattle.layouts.specs.Layout.{refused, known_kind, kind_of, layout}
 use Rattle.layouts.specs.Records.{put_at, written_at}
 use Rattle.layouts.proofs.Layouts.{IsStored}
 use Rattle.layouts.proofs.Trips.{layout_lone}
@@ -50,12 +50,10 @@ use Rattle.executions.specs.declared.Opening.{Opening}
 use Rattle.executions.specs.declared.Opening.TheVariants as G
 use Rattle.executions.specs.Executions.{Execution}
 use Rattle.executions.specs.Promises.{size_of, execution_of, starting, unbegun, begun_as, begun, day_after, played, record_of, written_of}
-use Rattle.executions.specs.Events.{Stopped, Heard, AllAllowed, AllStopped}
-use Rattle.executions.specs.Finished.{Known, Free, Opens, unknown, otherwise, AsPlayed, played_of, record_bytes, records_of, True}
+use Rattle.executions.specs.Finished.{Known, Free, Opens, unknown, otherwise, record_bytes, Over, records_of, True}
 use Rattle.executions.proofs.Executed.{stops, allowed_free, after_stop, happening_stop, orderly_history}
 use Rattle.executions.proofs.Days.{after_execution}
-use Rattle.executions.proofs.Events.{Tells, tells_day, as_played}
-use Rattle.executions.proofs.Plays.{Kept, kept_starting, kept_after, fault_on, played_kept, Plays, done, next, counted_plays}
+use Rattle.executions.proofs.Plays.{Kept, kept_starting, kept_after, fault_on, played_kept, Plays, done, next, plays_played}
 
 -- ---- opening
 
@@ -160,11 +158,11 @@ module _ {k : Kind} {s : List ℕ} {d : Day} (sound : IsRoster s) (below : (p : 
       go true e = let w = any_elim (length s) (λ x. rows x i) e in (w.0, w.2)
       go false e = absurd (z (λ p. is_false (rows p i) (λ t. clash t (any_none (length s) (λ x. rows x i) e p (is_history.history.inside p i t).0))))
 
-  answers_true : {r : Recovery} {es : List Event} → Tells k (length s) es (execution_of d) → Good s r → Fits (length s) (accepted_of r) rows → True k (length s) es r
+  answers_true : {r : Recovery} → Good s r → Fits (length s) (accepted_of r) rows → True d r
   unfolding outcome asked_says
-  answers_true t good f = record {
-    last = λ p e x h. clash ((t.heard x p).1 h) (((last_iff good.fits (step good (ask p))).0 (ap (λ (a : Asked). says (asked_says a)) e)).1 rows f x);
-    not_last = λ p e. let w = heard_of p (((not_last_iff good.fits (step good (ask p))).0 (ap (λ (a : Asked). says (asked_says a)) e)).1 rows f) in (w.0, (t.heard w.0 p).0 w.1);
+  answers_true good f = record {
+    last = λ p e. ((last_iff good.fits (step good (ask p))).0 (ap (λ (a : Asked). says (asked_says a)) e)).1 rows f;
+    not_last = λ p e. heard_of p (((not_last_iff good.fits (step good (ask p))).0 (ap (λ (a : Asked). says (asked_says a)) e)).1 rows f);
   }
 
   -- each record agrees with the day
@@ -184,11 +182,11 @@ module _ {k : Kind} {s : List ℕ} {d : Day} (sound : IsRoster s) (below : (p : 
       go rest (inr n) = rest n
 
   -- the records of any places, in any order
-  all_accepted : {es : List Event} → Tells k (length s) es (execution_of d) → (ps : List ℕ) → ((p : ℕ) → Memᴰ p ps → p < length s) → (r : Recovery) → Good s r
-      → Model s rows (λ p. k) r → Accepts r (records_of d ps) × True k (length s) es (left r (offers (records_of d ps)))
-  all_accepted t ps on r good f =
+  all_accepted : (ps : List ℕ) → ((p : ℕ) → Memᴰ p ps → p < length s) → (r : Recovery) → Good s r → Model s rows (λ p. k) r
+      → Accepts r (records_of d ps) × True d (left r (offers (records_of d ps)))
+  all_accepted ps on r good f =
       let w = agreeing_accepted good f (records_of d ps) (records_agree (seconds_of r) ps on) in
-      (w.0, answers_true t (good_after good (offers (records_of d ps))) w.1.fits)
+      (w.0, answers_true (good_after good (offers (records_of d ps))) w.1.fits)
 
 -- ---- the theorem
 
@@ -204,65 +202,45 @@ module _ (kind : ℕ) (s : List ℕ) (f : Free kind s) where
   }
 
   -- of a day that was opened and played, over or not
-  pub any_time : (d : Day) → Kept (kind_of kind) s d → (es : List Event) → Tells (kind_of kind) (length s) es (execution_of d)
+  pub any_time : (d : Day) → Kept (kind_of kind) s d
       → IsHistory (kind_of kind) (length s) (execution_of d).row
-      × ((ps : List ℕ) → ((p : ℕ) → Memᴰ p ps → p < length s)
-      → Accepts (opened s).recovery (records_of d ps) × True (kind_of kind) (length s) es (reached s (offers (records_of d ps))))
-  any_time d g es t = (
+      × ((ps : List ℕ) → ((p : ℕ) → Memᴰ p ps → p < length s) → Accepts (opened s).recovery (records_of d ps) × True d (reached s (offers (records_of d ps))))
+  any_time d g = (
     is_history f.list.sound f.list.serials g,
-    λ ps on. all_accepted f.list.sound f.list.serials g t ps on (opened s).recovery (good_opened f.list) (opened_model (execution_of d).row (is_history f.list.sound f.list.serials g)),
+    λ ps on. all_accepted f.list.sound f.list.serials g ps on (opened s).recovery (good_opened f.list) (opened_model (execution_of d).row (is_history f.list.sound f.list.serials g)),
   )
 
-module _ (kind : ℕ) (s : List ℕ) (f : Free kind s) (es : List Event) (h : length es < 2 ^ 64) where
-  -- the day after the events, and those of them that were played
-  abbrev over : Day
-  over = (played (begun kind s).day es).day
+-- for every kind and roster free of faults and every list of events, once the day is over: its rows are a history, each row of a full
+-- day holds all that is in the rows of its members, and its records
+-- are taken or repeated in every order, and what the recovery then answers of a place is true of the day
+pub finished : (kind : ℕ) (s : List ℕ) → Free kind s → (es : List Event) → Over (played (begun kind s).day es).day
+    → IsHistory (kind_of kind) (length s) (execution_of (played (begun kind s).day es).day).row
+    × ((ps : List ℕ) → ((p : ℕ) → Memᴰ p ps → p < length s)
+    → Accepts (opened s).recovery (records_of (played (begun kind s).day es).day ps)
+    × True (played (begun kind s).day es).day (reached s (offers (records_of (played (begun kind s).day es).day ps))))
+finished kind s f es over = any_time kind s f (played (begun kind s).day es).day (played_kept (begun_kept kind s f) es)
 
-  abbrev events : List Event
-  events = played_of (begun kind s).day es
+-- ---- its records are written
 
-  over_kept : Kept (kind_of kind) s over
-  over_kept = played_kept (begun_kept kind s f) es
+pub writes : (d : Day) (p : ℕ) → p < size_of d → (execution_of d).stopped p ≡ true → (out : List ℕ) (at : ℕ) → at + length (record_bytes d p) ≤ length out
+    → written_of d p out at ≡ record { answer = W.Next (at + length (record_bytes d p)); buffer = put_at at (record_bytes d p) out }
+unfolding written_of written_at record_bytes
+writes d p l s out at room = rw (lt-ltb p (size_of d) l, s, le-leb (at + length (layout (record_of d p))) (length out) room)
 
-  -- every play gives what happened in its events
-  pub happened_so : AsPlayed (kind_of kind) (length s) es (played (begun kind s).day es)
-  happened_so = subst (λ (b : Begun). AsPlayed (kind_of kind) (length s) es (played b.day es)) (sym (begun_as_lem kind s f)) (as_played (kind_of kind) s f.list.sound.few es h)
+pub record_written : (kind : ℕ) (s : List ℕ) → Free kind s → (es : List Event) → Over (played (begun kind s).day es).day → (p : ℕ) → p < length s → (out : List ℕ) (at : ℕ)
+    → at + length (record_bytes (played (begun kind s).day es).day p) ≤ length out
+    → written_of (played (begun kind s).day es).day p out at
+    ≡ record {
+      answer = W.Next (at + length (record_bytes (played (begun kind s).day es).day p));
+      buffer = put_at at (record_bytes (played (begun kind s).day es).day p) out;
+    }
+record_written kind s f es over p l out at room = writes d p on (over p on) out at room
+  where
+    d : Day
+    d = (played (begun kind s).day es).day
 
-  events_told : Tells (kind_of kind) (length s) events (execution_of over)
-  unfolding played_of
-  events_told = subst (λ (b : Begun). Tells (kind_of kind) (length s) (take (played b.day es).count es) (execution_of (played b.day es).day)) (sym (begun_as_lem kind s f))
-      (tells_day (kind_of kind) s f.list.sound.few (counted_plays (starting (kind_of kind) s) es h))
-
-  -- for every kind and roster free of faults and every list of events after which all have stopped: the day's rows are a history, each row of a full day holds all that is in
-  -- the rows of its members, its records are taken or repeated in every order, and what the recovery then answers of a place is true of what happened in those events
-  pub finished : AllStopped (length s) events
-      → IsHistory (kind_of kind) (length s) (execution_of over).row
-      × ((ps : List ℕ) → ((p : ℕ) → Memᴰ p ps → p < length s)
-      → Accepts (opened s).recovery (records_of over ps) × True (kind_of kind) (length s) events (reached s (offers (records_of over ps))))
-  finished all = any_time kind s f over over_kept events events_told
-
-  -- ---- its records are written
-
-  -- the bytes are those of a record that names whom its place heard in these events
-  pub record_told : (p : ℕ) → p < length s → (x : Stored) × (lone itself (record_bytes over p) ≡ got x [])
-      × (x.kind ≡ kind_of kind) × (x.own ≡ p) × (x.roster ≡ s) × ((q : ℕ) → (x.mourned q ≡ true) ↔ Heard (kind_of kind) (length s) events p q)
-  unfolding record_bytes record_of
-  record_told p l = (
-    record_of over p,
-    layout_lone itself (record_of over p) (record_stored f.list.sound f.list.serials over_kept p l),
-    over_kept.sound.is_kind,
-    refl,
-    over_kept.sound.is_roster,
-    λ q. events_told.heard p q,
-  )
-
-  -- and the writer lays them down wherever there is room, of each place that has stopped
-  pub record_written : (p : ℕ) → p < length s → Stopped events p → (out : List ℕ) (at : ℕ) → at + length (record_bytes over p) ≤ length out
-      → written_of over p out at ≡ record { answer = W.Next (at + length (record_bytes over p)); buffer = put_at at (record_bytes over p) out }
-  unfolding written_of written_at record_bytes
-  record_written p l z out at room =
-      let on : p < size_of over = rw over_kept.sound.is_size l in
-      rw (lt-ltb p (size_of over) on, (events_told.stopped p).1 z, le-leb (at + length (layout (record_of over p))) (length out) room)
+    on : p < size_of d
+    on = rw (played_kept (begun_kept kind s f) es).sound.is_size l
 
 -- ---- a day that is over can be had
 
@@ -328,20 +306,11 @@ module _ {k : Kind} {s : List ℕ} {d : Day} (g : Kept k s d) where
   all_stop zero l = record { events = []; day = d; plays = done; few = omega arith; kept = g; all = λ p h. absurd (omega arith) }
   all_stop (suc m) l = one_stop m l (all_stop m (omega arith))
 
--- whatever was played, there are further events, allowed where they come, after which everyone has stopped
-pub ends : (kind : ℕ) (s : List ℕ) → Free kind s → (es : List Event) → length es < 2 ^ 64
-    → (fs : List Event) × AllAllowed (length s) (played_of (begun kind s).day es ++ fs) × AllStopped (length s) (played_of (begun kind s).day es ++ fs)
-unfolding played_of
-ends kind s f es h = subst (λ (b : Begun). Ending b) (sym (begun_as_lem kind s f)) (w.events, t.allowed, λ p l. (t.stopped p).0 (w.all p l))
-  where
-    Ending : Begun → Type 0
-    Ending b = (fs : List Event) × AllAllowed (length s) (take (played b.day es).count es ++ fs) × AllStopped (length s) (take (played b.day es).count es ++ fs)
-
-    start : Day
-    start = starting (kind_of kind) s
-
-    w : Stopping (kind_of kind) s (played start es).day (length s)
-    w = all_stop (played_kept (kept_starting (kind_of kind) s f.list.sound.few) es) (length s) (omega arith)
-
-    t : Tells (kind_of kind) (length s) (take (played start es).count es ++ w.events) (execution_of w.day)
-    t = tells_day (kind_of kind) s f.list.sound.few (plays_on (counted_plays start es h) w.plays)
+-- whatever was played, further events that are all allowed end the day
+pub ends : (kind : ℕ) (s : List ℕ) → Free kind s → (es : List Event) → (fs : List Event) × ((played (played (begun kind s).day es).day fs).refusal ≡ 0)
+    × Over (played (played (begun kind s).day es).day fs).day
+ends kind s f es =
+    let g = played_kept (begun_kept kind s f) es in
+    let w = all_stop g (length s) (omega arith) in
+    let e = plays_played w.plays (omega (arith, w.few, f.list.sound.few)) in
+    (w.events, ap (λ (p : Played). p.refusal) e, subst (λ (p : Played). Over p.day) (sym e) (λ p l. w.all p (rw w.kept.sound.is_size at l)))

@@ -34,7 +34,7 @@ use Rattle.calls.specs.Run.{offer_says, outcome, ledger_of, left, reached}
 use Rattle.calls.specs.Run as run
 use Rattle.calls.proofs.Keeps.{kept_blocking}
 use Rattle.calls.proofs.Demand.{Good, is_roster, is_size, is_alias, step, good_after, good_left}
-use Rattle.calls.proofs.Single.{single, same_record}
+use Rattle.calls.proofs.Single.{plain, single, same_record}
 use Rattle.calls.proofs.Dictated.{within_left}
 use Rattle.calls.proofs.Later.{offered_good, offered_enters, offered_within}
 use Rattle.games.specs.Fetched.{number, Absent, HandedOver, empty_record, SettledWithin, done, fetch, OpenBeyond}
@@ -133,7 +133,7 @@ module _ {roster : List ℕ} {r : Recovery} (g : Good roster r) where
 
     -- so it is taken, and lies on the others
     taken_lays : (says (offer_says (offered r (empty_record r p k)).answer) ≡ says D.taken) × (ledger_of (offered r (empty_record r p k)).recovery ≡ record { accepted = lay (accepted_of r) p k nothing; seconds = seconds_of r })
-    unfolding outcome run.next
+    unfolding outcome run.next plain
     taken_lays =
         single g.fits (record { roster = g.sound; seconds = g.given }) (step g (offer (empty_record r p k)))
         (takes empty_of_group absent.1 (empty_fits (accepted_of r) p k absent.1 g.fits)) tt tt

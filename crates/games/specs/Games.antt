@@ -83,4 +83,4 @@ fetches_from r = crews_turn (absent_count r) r
 
 -- the game from r on: 17 for a roster of more than four
 unfoldable pub played : Recovery → Played
-played r = cond (leb (size_of r) 4) (P.Fetches (fetches_from r)) (P.Refused 17)
+played r = cond (leb (size_of r) 4) (P.Fetches (crews_turn (absent_count r) r)) (P.Refused 17)

@@ -1,8 +1,9 @@
 // The lines of the program's output, laid into a lent buffer from a position on. Where a line does not fit, nothing changes and the answer is
 // refusal 13.
-ghost use Rattle.std.specs.Prelude.{◌≡◌};
+ghost use Rattle.std.specs.Prelude.{◌≡◌, ◌++◌, ◌+◌, ◌≤◌, length};
 ghost use Rattle.layouts.specs.Records.{written_at};
-ghost use Rattle.transcripts.specs.Lines.{record_line, place_line, whole_line, none_line};
+ghost use Rattle.layouts.specs.Fronts.{front};
+ghost use Rattle.transcripts.specs.Lines.{ascii, decimal, line, record_line, place_line, whole_line, none_line};
 
 use answers::Reply;
 use calls::Asked;
@@ -15,9 +16,9 @@ pub fn put_record(out: &mut [u8], at: usize, number: u64, answer: Reply) -> Writ
     ensures out_after { out.new ≡ (written_at (record_line number answer) out.old at).buffer }
 {
     match answer {
-        Reply::Taken => texts::put_numbered(out, at, b"record ", number, b" taken"),
-        Reply::Repeated => texts::put_numbered(out, at, b"record ", number, b" repeated"),
-        Reply::Refused(refusal) => texts::put_refused(out, at, b"record ", number, refusal),
+        Reply::Taken => put_numbered(out, at, b"record ", number, b" taken"),
+        Reply::Repeated => put_numbered(out, at, b"record ", number, b" repeated"),
+        Reply::Refused(refusal) => put_refused(out, at, b"record ", number, refusal),
     }
 }
 
@@ -28,10 +29,10 @@ pub fn put_place(out: &mut [u8], at: usize, serial: Serial, answer: Asked) -> Wr
 {
     let number = serial.0 as u64;
     match answer {
-        Asked::Last => texts::put_numbered(out, at, b"", number, b" last"),
-        Asked::NotLast => texts::put_numbered(out, at, b"", number, b" not"),
-        Asked::Open => texts::put_numbered(out, at, b"", number, b" open"),
-        Asked::Refused(refusal) => texts::put_refused(out, at, b"", number, refusal),
+        Asked::Last => put_numbered(out, at, b"", number, b" last"),
+        Asked::NotLast => put_numbered(out, at, b"", number, b" not"),
+        Asked::Open => put_numbered(out, at, b"", number, b" open"),
+        Asked::Refused(refusal) => put_refused(out, at, b"", number, refusal),
     }
 }
 
@@ -41,9 +42,9 @@ pub fn put_whole(out: &mut [u8], at: usize, settled: bool) -> Writing
     ensures out_after { out.new ≡ (written_at (whole_line settled) out.old at).buffer }
 {
     if settled {
-        texts::put_text(out, at, b"whole settled")
+        put_text(out, at, b"whole settled")
     } else {
-        texts::put_text(out, at, b"whole open")
+        put_text(out, at, b"whole open")
     }
 }
 
@@ -52,5 +53,119 @@ pub fn put_none(out: &mut [u8], at: usize) -> Writing
     ensures value { result ≡ (written_at none_line out.old at).answer }
     ensures out_after { out.new ≡ (written_at none_line out.old at).buffer }
 {
-    texts::put_text(out, at, b"no records")
+    put_text(out, at, b"no records")
+}
+
+// Lays a text into the front of `out`.
+fn lay_text(out: &mut [u8], text: &[u8])
+    requires { length text.now ≤ length out.old }
+    ensures { out.new ≡ front text.now out.old }
+{
+    let mut i = 0;
+    while i < text.len() {
+        out[i] = text[i];
+        i += 1;
+    }
+}
+
+// Lays the last text of a line into the front of `out`, and the byte that ends the line.
+fn lay_last(out: &mut [u8], text: &[u8])
+    requires { length text.now + 1 ≤ length out.old }
+    ensures { out.new ≡ front (line text.now) out.old }
+{
+    lay_text(&mut out[..], text);
+    let end = text.len();
+    out[end] = 10;
+}
+
+// How many digits a number has in decimal.
+fn count_digits(number: u64) -> usize
+    ensures value { result ≡ length (decimal number) }
+    ensures upper_bound { result ≤ 20 }
+{
+    let mut left = number;
+    let mut count = 1;
+    while 9 < left {
+        left = left / 10;
+        count += 1;
+    }
+    count
+}
+
+// Lays the `count` digits of a number into the front of `out`, from the last to the first.
+fn lay_decimal(out: &mut [u8], number: u64, count: usize)
+    requires count_value { count ≡ length (decimal number) }
+    requires count_in_bounds { count ≤ length out.old }
+    ensures { out.new ≡ front (decimal number) out.old }
+{
+    let mut left = number;
+    let mut i = 0;
+    while i < count {
+        let place = count - 1 - i;
+        out[place] = 48 + (left % 10) as u8;
+        left = left / 10;
+        i += 1;
+    }
+}
+
+// Lays a line with a number of `count` digits in it into the front of `out`.
+fn lay_numbered(out: &mut [u8], head: &[u8], number: u64, count: usize, tail: &[u8])
+    requires count_value { count ≡ length (decimal number) }
+    requires tail_in_bounds { length head.now + count + length tail.now + 1 ≤ length out.old }
+    ensures { out.new ≡ front (line (head.now ++ (decimal number ++ tail.now))) out.old }
+{
+    lay_text(&mut out[..], head);
+    let p = head.len();
+    lay_decimal(&mut out[p..], number, count);
+    let q = p + count;
+    lay_last(&mut out[q..], tail);
+}
+
+// A line with a number in it, from a position on. The bounds keep the sum of the lengths from wrapping.
+fn put_numbered(out: &mut [u8], at: usize, head: &[u8], number: u64, tail: &[u8]) -> Writing
+    requires head_len_bound { length head.now ≤ 7 }
+    requires tail_len_bound { length tail.now ≤ 12 }
+    ensures value { result ≡ (written_at (line (head.now ++ (decimal number ++ tail.now))) out.old at).answer }
+    ensures out_after { out.new ≡ (written_at (line (head.now ++ (decimal number ++ tail.now))) out.old at).buffer }
+{
+    let count = count_digits(number);
+    let size = head.len() + count + tail.len() + 1;
+    if out.len() < at {
+        return Writing::Refused(13);
+    }
+    if out.len() - at < size {
+        return Writing::Refused(13);
+    }
+    lay_numbered(&mut out[at..], head, number, count, tail);
+    Writing::Next(at + size)
+}
+
+// The same line with a refusal for its tail.
+fn put_refused(out: &mut [u8], at: usize, head: &[u8], number: u64, refusal: u8) -> Writing
+    requires { length head.now ≤ 7 }
+    ensures value { result ≡ (written_at (line (head.now ++ (decimal number ++ (ascii " refused " ++ decimal refusal)))) out.old at).answer }
+    ensures out_after { out.new ≡ (written_at (line (head.now ++ (decimal number ++ (ascii " refused " ++ decimal refusal)))) out.old at).buffer }
+{
+    let mut tail = [0; 12];
+    lay_text(&mut tail, b" refused ");
+    let count = count_digits(refusal as u64);
+    lay_decimal(&mut tail[9..], refusal as u64, count);
+    let end = 9 + count;
+    put_numbered(out, at, head, number, &tail[..end])
+}
+
+// A line of one text, from a position on.
+fn put_text(out: &mut [u8], at: usize, text: &[u8]) -> Writing
+    ensures value { result ≡ (written_at (line text.now) out.old at).answer }
+    ensures out_after { out.new ≡ (written_at (line text.now) out.old at).buffer }
+{
+    let size = text.len() + 1;
+    if out.len() < at {
+        return Writing::Refused(13);
+    }
+    if out.len() - at < size {
+        return Writing::Refused(13);
+    }
+    lay_last(&mut out[at..], text);
+    Writing::Next(at + size)
 }

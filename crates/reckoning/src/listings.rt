@@ -1,11 +1,10 @@
 // The list of all places beside the answers that the pile gives, one byte each.
+use crate::cases::Case;
+use crate::outcomes::{LAST, LISTED, NOT_LAST, OPEN};
+use crate::tallies::Tally;
+use crate::{cases, outcomes, parts};
 use answers::Listing;
-use matrices::cases;
-use matrices::cases::Case;
 use recovery::Recovery;
-use trials::outcomes::{LAST, LISTED, NOT_LAST, OPEN};
-use trials::tallies::Tally;
-use trials::{outcomes, parts};
 
 // What the buffer has before.
 const OLD: u8 = 7;

@@ -1,10 +1,9 @@
 // What a crew is told to fetch, beside the places that block by the histories.
-use matrices::cases;
-use matrices::cases::Case;
+use crate::cases::Case;
+use crate::outcomes::{NOTHING, SETTLED};
+use crate::tallies::Tally;
+use crate::{cases, matrices, outcomes};
 use recovery::Recovery;
-use trials::outcomes;
-use trials::outcomes::{NOTHING, SETTLED};
-use trials::tallies::Tally;
 
 // How many fetches a set of blocking places takes.
 fn fetches(set: u32) -> u64 {

@@ -1,14 +1,13 @@
 // The lists, one after another.
-ghost use Rattle.std.specs.Prelude.{◌≤◌, ◌<◌};
+ghost use Rattle.std.specs.Prelude.{◌<◌, ◌≤◌};
 
+use crate::lists::Case;
 use crate::pairs::Pair;
-use crate::{pairs, returns};
+use crate::plain::Plain;
+use crate::tallies::Tally;
+use crate::{lists, pairs, parts, plain, returns, stored, tallies};
 use days::Day;
-use plain_days::lists::Case;
-use plain_days::{Plain, lists};
 use recovery::Recovery;
-use trials::tallies::Tally;
-use trials::{parts, tallies};
 
 // Whether a list ends at its first refusal, or goes on after it.
 #[derive(Drop)]
@@ -18,13 +17,13 @@ enum Trial {
 }
 
 fn day(kind: u8, n: usize) -> Day {
-    let serials = pairs::serials();
+    let serials = stored::serials();
     let got = days::open(kind, parts::of_three(&serials, n));
     got.day
 }
 
 fn group(n: usize) -> Recovery {
-    let serials = pairs::serials();
+    let serials = stored::serials();
     let got = recovery::open(parts::of_three(&serials, n));
     got.recovery
 }
@@ -105,7 +104,7 @@ fn stride(c: Case, d: Plain) -> u64
 fn finish(c: Case, g: Pair, r: Recovery) -> Tally {
     let t = pairs::writes(c, g);
     let plain = g.plain;
-    if !plain_days::all_stopped(plain) {
+    if !plain::all_stopped(plain) {
         return t;
     }
     returns::in_every_order(c, g, r, t)

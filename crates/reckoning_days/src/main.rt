@@ -2,10 +2,22 @@
 // line for each family of cases; before it one for the first case that differs, with all that it takes to repeat it: the day's kind, the
 // roster's length, the events in order as KIND:PLACE:OTHER, what was looked at, and both outcomes.
 mod families;
+mod lists;
+mod named;
+mod outcomes;
 mod pairs;
+mod parts;
+mod plain;
 mod returns;
+mod say;
+mod stored;
+mod tallies;
 
 fn main() {
     families::of_lists();
     families::of_allowed();
+    tallies::report(
+        b"openings, and what a caller meets",
+        named::cases(tallies::none()),
+    );
 }

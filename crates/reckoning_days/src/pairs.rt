@@ -1,15 +1,10 @@
 // A day beside the second reckoning: a list played event by event, the refusal and the count held after each, and then every record.
+use crate::lists::{Case, Turn};
+use crate::plain::Plain;
+use crate::tallies::Tally;
+use crate::{lists, outcomes, parts, plain, stored};
 use days::{Day, Event, Played};
-use plain_days::lists::{Case, Turn};
-use plain_days::{Plain, lists};
 use sets::Place;
-use trials::tallies::Tally;
-use trials::{outcomes, parts, stored, written};
-
-// The serials of the rosters; the first two are the roster of two.
-pub fn serials() -> [u32; 3] {
-    [0x01020304, 0xfffefdfc, 0x00010000]
-}
 
 #[derive(Drop)]
 pub struct Pair {
@@ -24,7 +19,7 @@ fn paired(d: Day, c: Case, tally: Tally) -> Pair {
         refusal: 0,
         day: d,
     };
-    let plain = plain_days::begun(c.kind, c.n);
+    let plain = plain::begun(c.kind, c.n);
     Pair {
         played,
         plain,
@@ -45,7 +40,7 @@ fn step(c: Case, g: Pair, i: usize) -> Pair {
     let e = lists::event(c, i);
     let old = g.played;
     let t = g.tally;
-    let plain = plain_days::step(g.plain, e);
+    let plain = plain::step(g.plain, e);
     let played = days::step(old, event(e));
     let t = lists::held(
         t,
@@ -81,7 +76,7 @@ fn happen(c: Case, g: Pair, i: usize) -> Pair {
     let old = g.played;
     let t = g.tally;
     let day = old.day;
-    let plain = plain_days::happen(g.plain, e);
+    let plain = plain::happen(g.plain, e);
     let got = days::happen(day, event(e));
     let refusal = got.refusal;
     let day = got.day;
@@ -118,17 +113,15 @@ pub fn happens(d: Day, c: Case, tally: Tally) -> Pair {
 }
 
 // The record of a place as the second reckoning has it: 12, 14, or where it ends, from position 20 on.
-fn record(made: &mut [u8; 1100], d: Plain, place: usize) -> u64 {
-    let serials = serials();
+fn record(made: &mut [u8; 64], d: Plain, place: usize) -> u64 {
     if d.n <= place {
         return 12;
     }
-    if !plain_days::is_stopped(d, place) {
+    if !plain::is_stopped(d, place) {
         return 14;
     }
-    let roster = parts::of_three(&serials, d.n);
-    let length = stored::record(d.kind, place, roster, plain_days::row(d, place), made);
-    20 + length as u64
+    let length = stored::record(made, d.kind, d.n, place, plain::row(d, place));
+    20 + (length % 64) as u64
 }
 
 // How many bytes were to be written.
@@ -140,7 +133,7 @@ fn length(expected: u64) -> usize {
 }
 
 fn write(c: Case, d: Day, plain: Plain, t: Tally, place: usize) -> Tally {
-    let mut made = [0u8; 1100];
+    let mut made = [0u8; 64];
     let mut out = [0xaau8; 64];
     let expected = record(&mut made, plain, place);
     let got = days::write(d, Place(place), &mut out, 20);
@@ -152,7 +145,7 @@ fn write(c: Case, d: Day, plain: Plain, t: Tally, place: usize) -> Tally {
         expected,
         outcomes::writing(got),
     );
-    let same = written::has_only(&out, 20, parts::of_record(&made, length(expected)));
+    let same = stored::has_only(&out, 20, parts::of_buffer(&made, length(expected)));
     lists::held(t, c, b"written, place", place, 1, outcomes::truth(same))
 }
 

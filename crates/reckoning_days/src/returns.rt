@@ -1,15 +1,15 @@
 // The records of a day on which all have stopped, brought back in every order.
 ghost use Rattle.std.specs.Prelude.{◌≤◌};
 
+use crate::lists::Case;
 use crate::pairs::Pair;
+use crate::plain::Plain;
+use crate::tallies::Tally;
+use crate::{lists, outcomes, parts, plain};
 use days::Day;
-use layouts::Writing;
-use plain_days::lists::Case;
-use plain_days::{Plain, lists};
+use records::Writing;
 use recovery::{Offered, Recovery};
 use sets::Place;
-use trials::tallies::Tally;
-use trials::{outcomes, parts};
 
 #[derive(Drop)]
 struct Back {
@@ -47,7 +47,7 @@ fn end(got: Writing) -> usize {
 
 // Offers the record that the day writes for a place.
 fn offer(d: Day, r: Recovery, place: usize) -> Offered {
-    let mut out = [0u8; 80];
+    let mut out = [0u8; 64];
     let got = days::write(d, Place(place), &mut out, 0);
     recovery::offer(r, parts::of_buffer(&out, end(got)))
 }
@@ -55,12 +55,12 @@ fn offer(d: Day, r: Recovery, place: usize) -> Offered {
 // What may be answered for a place: what is true of the day, or open while one is not back.
 fn answer(d: Plain, place: usize, came: u64, back: usize) -> u64 {
     if d.n <= back {
-        return plain_days::last(d, place);
+        return plain::last(d, place);
     }
     if came == outcomes::OPEN {
         return outcomes::OPEN;
     }
-    plain_days::last(d, place)
+    plain::last(d, place)
 }
 
 fn ask(c: Case, r: Recovery, d: Plain, t: Tally, place: usize, back: usize) -> Tally {

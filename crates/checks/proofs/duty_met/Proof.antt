@@ -7,8 +7,7 @@ use Rattle.sets.specs.Sets.{count}
 use Rattle.sets.specs.PlaceSets.{has}
 use Rattle.sets.proofs.Laws.{lowest_found, lowest_nothing, without_count}
 use Rattle.rows.specs.Rows.{history_in}
-use Rattle.circles.proofs.Lent.{lent_on}
-use Rattle.checks.proofs.Checks.{Turns, turns_start, turns_next}
+use Rattle.checks.proofs.Checks.{Turns, lent_on, turns_start, turns_next}
 use Rattle.checks.proofs.Closed.{AllCovered, duty_open, duty_met_lem}
 use Rattle.checks.proofs.duty_met.Statement.{statement}
 use Rattle.checks.proofs.duty_met.Tie as tie

@@ -1,6 +1,6 @@
 -- `checks::lent_row` meets its contract. Assumes nothing.
 use borrow.Author.Rules.{rules}
-use Rattle.circles.proofs.Lent.{lent_is}
+use Rattle.checks.proofs.Checks.{lent_is}
 use Rattle.checks.proofs.lent_row.Statement.{statement}
 use Rattle.checks.proofs.lent_row.Tie as tie
 

@@ -1,6 +1,5 @@
 -- `families::all_piles` is safe and ends. Assumes nothing.
-use Prim.Native.Nat.{◌-◌, ◌≤◌}
-use borrow.Author.Rules.{rules}
+use Rattle.std.proofs.Common.{◌-◌, ◌≤◌, rules}
 use Rattle.reckoning.proofs.families.all_piles.Statement.{statement}
 use Rattle.reckoning.proofs.families.all_piles.Tie as tie
 

@@ -1,14 +1,13 @@
 -- `families::orders` is safe and ends. Assumes nothing.
-use Prim.Native.Nat.{◌-◌, ◌≤◌}
-use borrow.Author.Rules.{rules}
+use Rattle.std.proofs.Common.{◌-◌, ◌≤◌, rules}
 use Rattle.reckoning.proofs.families.orders.Statement.{statement}
 use Rattle.reckoning.proofs.families.orders.Tie as tie
 
 abbrev invariant-loop : tie.invariant-loop
-invariant-loop list n pile t₀ order₀ t order = order ≤ 24
+invariant-loop list n pile alike t₀ order₀ t order = order ≤ 24
 
 abbrev decreases-loop : tie.decreases-loop
-decreases-loop list n pile t₀ order₀ t order = 24 - order
+decreases-loop list n pile alike t₀ order₀ t order = 24 - order
 
 loop-holds : tie.Need-loop-init invariant-loop decreases-loop
 loop-holds c = search rules
@@ -16,8 +15,8 @@ loop-holds c = search rules
 orders-requires : tie.Need-orders-requires invariant-loop decreases-loop
 orders-requires c κs = search rules
 
-played-requires : tie.Need-played-requires invariant-loop decreases-loop
-played-requires c κs = search rules
+one-order-requires : tie.Need-one-order-requires invariant-loop decreases-loop
+one-order-requires c κs = search rules
 
 add-order : tie.Need-overflow-add-order invariant-loop decreases-loop
 add-order c = search rules
@@ -39,7 +38,7 @@ orders-spec =
     decreases-loop
     loop-holds
     orders-requires
-    played-requires
+    one-order-requires
     add-order
     loop-less
     loop-again

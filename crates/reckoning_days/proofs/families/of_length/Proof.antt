@@ -1,6 +1,5 @@
 -- `families::of_length` is safe and ends. Assumes nothing.
-use Prim.Native.Nat.{◌-◌, ◌≤◌}
-use borrow.Author.Rules.{rules}
+use Rattle.std.proofs.Common.{◌-◌, ◌≤◌, rules}
 use Rattle.reckoning_days.proofs.families.of_length.Statement.{statement}
 use Rattle.reckoning_days.proofs.families.of_length.Tie as tie
 

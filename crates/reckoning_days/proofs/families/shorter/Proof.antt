@@ -1,6 +1,5 @@
 -- `families::shorter` is safe and ends. Assumes nothing.
-use Prim.Native.Nat.{◌-◌}
-use borrow.Author.Rules.{rules}
+use Rattle.std.proofs.Common.{◌-◌, rules}
 use Rattle.reckoning_days.proofs.families.shorter.Statement.{statement}
 use Rattle.reckoning_days.proofs.families.shorter.Tie as tie
 

@@ -1,6 +1,5 @@
 -- `days::happens` is safe and ends. Assumes nothing.
-use Prim.Native.Nat.{◌-◌}
-use borrow.Author.Rules.{rules}
+use Rattle.std.proofs.Common.{◌-◌, rules}
 use Rattle.reckoning_days.proofs.pairs.happens.Statement.{statement}
 use Rattle.reckoning_days.proofs.pairs.happens.Tie as tie
 

@@ -1,6 +1,5 @@
 -- `day_plays::play` is safe and ends. Assumes nothing.
-use Prim.Native.Nat.{◌-◌}
-use borrow.Author.Rules.{rules}
+use Rattle.std.proofs.Common.{◌-◌, rules}
 use Rattle.reckoning_days.proofs.pairs.play.Statement.{statement}
 use Rattle.reckoning_days.proofs.pairs.play.Tie as tie
 

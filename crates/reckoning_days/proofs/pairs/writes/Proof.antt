@@ -1,6 +1,5 @@
 -- `days::writes` is safe and ends. Assumes nothing.
-use Prim.Native.Nat.{◌-◌}
-use borrow.Author.Rules.{rules}
+use Rattle.std.proofs.Common.{◌-◌, rules}
 use Rattle.reckoning_days.proofs.pairs.writes.Statement.{statement}
 use Rattle.reckoning_days.proofs.pairs.writes.Tie as tie
 

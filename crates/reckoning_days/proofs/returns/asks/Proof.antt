@@ -1,6 +1,5 @@
 -- `returns::asks` is safe and ends. Assumes nothing.
-use Prim.Native.Nat.{◌-◌}
-use borrow.Author.Rules.{rules}
+use Rattle.std.proofs.Common.{◌-◌, rules}
 use Rattle.reckoning_days.proofs.returns.asks.Statement.{statement}
 use Rattle.reckoning_days.proofs.returns.asks.Tie as tie
 

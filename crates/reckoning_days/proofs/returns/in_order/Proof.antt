@@ -1,6 +1,5 @@
 -- `returns::in_order` is safe and ends. Assumes nothing.
-use Prim.Native.Nat.{◌-◌}
-use borrow.Author.Rules.{rules}
+use Rattle.std.proofs.Common.{◌-◌, rules}
 use Rattle.reckoning_days.proofs.returns.in_order.Statement.{statement}
 use Rattle.reckoning_days.proofs.returns.in_order.Tie as tie
 

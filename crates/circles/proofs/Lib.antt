@@ -1,3 +1,0 @@
--- What the proofs of the functions cite, here and in `checks`.
-pub mod Lent
-pub mod Walk

@@ -1,0 +1,49 @@
+-- `alike::same_rows` is safe and ends. Assumes nothing.
+use Rattle.std.proofs.Common.{◌-◌, ◌≤◌, rules}
+use Rattle.reckoning.proofs.alike.same_rows.Statement.{statement}
+use Rattle.reckoning.proofs.alike.same_rows.Tie as tie
+
+abbrev invariant-loop : tie.invariant-loop
+invariant-loop a b i₀ i = i ≤ 2048
+
+abbrev decreases-loop : tie.decreases-loop
+decreases-loop a b i₀ i = 2048 - i
+
+loop-holds : tie.Need-loop-init invariant-loop decreases-loop
+loop-holds c = search rules
+
+element-copy-out-if1 : tie.Need-element-copy-out-if1 invariant-loop decreases-loop
+element-copy-out-if1 c = search rules
+
+element-copy-out-if1-2 : tie.Need-element-copy-out-if1-2 invariant-loop decreases-loop
+element-copy-out-if1-2 c = search rules
+
+returns : tie.Need-returns invariant-loop decreases-loop
+returns c = search rules
+
+add-i : tie.Need-overflow-add-i invariant-loop decreases-loop
+add-i c = search rules
+
+loop-less : tie.Need-loop-smaller invariant-loop decreases-loop
+loop-less c = search rules
+
+loop-again : tie.Need-loop-preserved invariant-loop decreases-loop
+loop-again c = search rules
+
+returns-2 : tie.Need-returns-2 invariant-loop decreases-loop
+returns-2 c = search rules
+
+pub same-rows-spec : {M : Type 1} → statement M
+same-rows-spec =
+    tie.close
+    (tie.spec
+    invariant-loop
+    decreases-loop
+    loop-holds
+    element-copy-out-if1
+    element-copy-out-if1-2
+    returns
+    add-i
+    loop-less
+    loop-again
+    returns-2)

@@ -1,0 +1,70 @@
+// Every outcome as one number: a refusal is its own number, the others stand above all counts and positions that occur.
+use crate::say;
+use answers::Reply;
+use days::Opening;
+use records::Writing;
+use recovery::Asked;
+
+pub const OPENED: u64 = 1000001;
+
+pub const TAKEN: u64 = 1000002;
+
+pub const REPEATED: u64 = 1000003;
+
+pub const LAST: u64 = 1000004;
+
+pub const NOT_LAST: u64 = 1000005;
+
+pub const OPEN: u64 = 1000006;
+
+// An outcome in words, or as the number that it is.
+pub fn write(x: u64) {
+    match x {
+        1000001 => say::text(b"opened"),
+        1000002 => say::text(b"taken"),
+        1000003 => say::text(b"repeated"),
+        1000004 => say::text(b"last"),
+        1000005 => say::text(b"not"),
+        1000006 => say::text(b"open"),
+        _ => say::number(x),
+    }
+}
+
+pub fn opening(got: Opening) -> u64 {
+    match got {
+        Opening::Opened => OPENED,
+        Opening::Refused(fault) => fault as u64,
+    }
+}
+
+pub fn reply(got: Reply) -> u64 {
+    match got {
+        Reply::Taken => TAKEN,
+        Reply::Repeated => REPEATED,
+        Reply::Refused(fault) => fault as u64,
+    }
+}
+
+pub fn asked(got: Asked) -> u64 {
+    match got {
+        Asked::Last => LAST,
+        Asked::NotLast => NOT_LAST,
+        Asked::Open => OPEN,
+        Asked::Refused(fault) => fault as u64,
+    }
+}
+
+// Where a written record ends. Refusals are told from the positions, which are larger than 15 in all cases here.
+pub fn writing(got: Writing) -> u64 {
+    match got {
+        Writing::Next(next) => next as u64,
+        Writing::Refused(fault) => fault as u64,
+    }
+}
+
+pub fn truth(got: bool) -> u64 {
+    if got {
+        return 1;
+    }
+    0
+}

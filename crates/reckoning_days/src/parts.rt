@@ -1,0 +1,36 @@
+// The first n of a list, or the whole where there are no more.
+
+fn numbers(list: &[u32], n: usize) -> &[u32] {
+    if n < list.len() {
+        return &list[..n];
+    }
+    list
+}
+
+fn bytes(list: &[u8], n: usize) -> &[u8] {
+    if n < list.len() {
+        return &list[..n];
+    }
+    list
+}
+
+pub fn lent(buffer: &mut [u8], n: usize) -> &mut [u8] {
+    if n < buffer.len() {
+        return &mut buffer[..n];
+    }
+    buffer
+}
+
+// The same of arrays.
+
+pub fn of_buffer(list: &[u8; 64], n: usize) -> &[u8] {
+    bytes(list, n)
+}
+
+pub fn of_three(list: &[u32; 3], n: usize) -> &[u32] {
+    numbers(list, n)
+}
+
+pub fn of_many(list: &[u32; 130], n: usize) -> &[u32] {
+    numbers(list, n)
+}

@@ -1,0 +1,49 @@
+-- `beside::all_from` is safe and ends. Assumes nothing.
+use Rattle.std.proofs.Common.{◌-◌, rules}
+use Rattle.records_tests.proofs.beside.all_from.Statement.{statement}
+use Rattle.records_tests.proofs.beside.all_from.Tie as tie
+
+abbrev invariant-loop : tie.invariant-loop
+invariant-loop list from x i₀ i = Unit {0}
+
+abbrev decreases-loop : tie.decreases-loop
+decreases-loop list from x i₀ i = 128 - i
+
+loop-holds : tie.Need-loop-init invariant-loop decreases-loop
+loop-holds c = search rules
+
+mul-if1 : tie.Need-overflow-mul-if1 invariant-loop decreases-loop
+mul-if1 c = search rules
+
+element-copy-out-if1 : tie.Need-element-copy-out-if1 invariant-loop decreases-loop
+element-copy-out-if1 c = search rules
+
+returns : tie.Need-returns invariant-loop decreases-loop
+returns c = search rules
+
+add-i : tie.Need-overflow-add-i invariant-loop decreases-loop
+add-i c = search rules
+
+loop-less : tie.Need-loop-smaller invariant-loop decreases-loop
+loop-less c = search rules
+
+loop-again : tie.Need-loop-preserved invariant-loop decreases-loop
+loop-again c = search rules
+
+returns-2 : tie.Need-returns-2 invariant-loop decreases-loop
+returns-2 c = search rules
+
+pub all-from-spec : {M : Type 1} → statement M
+all-from-spec =
+    tie.close
+    (tie.spec
+    invariant-loop
+    decreases-loop
+    loop-holds
+    mul-if1
+    element-copy-out-if1
+    returns
+    add-i
+    loop-less
+    loop-again
+    returns-2)

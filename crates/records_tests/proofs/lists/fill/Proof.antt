@@ -1,0 +1,53 @@
+-- `lists::fill` is safe and ends. Assumes nothing.
+use Rattle.std.proofs.Common.{◌≡◌, ◌-◌, ◌≤◌, length, arith, length-set, rules}
+use Rattle.records_tests.proofs.lists.fill.Statement.{statement}
+use Rattle.records_tests.proofs.lists.fill.Tie as tie
+
+abbrev invariant-loop : tie.invariant-loop
+invariant-loop list₀ x y₀ i₀ list y i = (i ≤ length list₀) × (length list ≡ length list₀)
+
+abbrev decreases-loop : tie.decreases-loop
+decreases-loop list₀ x y₀ i₀ list y i = length list₀ - i
+
+loop-holds : tie.Need-loop-init invariant-loop decreases-loop
+loop-holds c = search rules
+
+wrapping-add-u32-requires : tie.Need-wrapping-add-u32-requires invariant-loop decreases-loop
+wrapping-add-u32-requires c κs = search rules
+
+mul-list : tie.Need-overflow-mul-list invariant-loop decreases-loop
+mul-list c = search rules
+
+slice-write-list : tie.Need-slice-write-list invariant-loop decreases-loop
+slice-write-list c = search rules
+
+add-i : tie.Need-overflow-add-i invariant-loop decreases-loop
+add-i c = search rules
+
+loop-less : tie.Need-loop-smaller invariant-loop decreases-loop
+loop-less c = search rules
+
+loop-again : tie.Need-loop-preserved invariant-loop decreases-loop
+loop-again c = (omega arith, simp length-set (omega arith))
+
+same_length : tie.Need-same-length invariant-loop decreases-loop
+same_length c = search rules
+
+returns : tie.Need-returns invariant-loop decreases-loop
+returns c = search rules
+
+pub fill_spec : {M : Type 1} → statement M
+fill_spec =
+    tie.close
+    (tie.spec
+    invariant-loop
+    decreases-loop
+    loop-holds
+    wrapping-add-u32-requires
+    mul-list
+    slice-write-list
+    add-i
+    loop-less
+    loop-again
+    same_length
+    returns)

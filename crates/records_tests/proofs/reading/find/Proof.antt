@@ -1,0 +1,45 @@
+-- `reading::find` is safe and ends, and stays within the bytes. Assumes nothing.
+use Rattle.std.proofs.Common.{◌-◌, ◌≤◌, length, sym, arith, length-take-le, rules}
+use Rattle.records_tests.proofs.reading.find.Statement.{statement}
+use Rattle.records_tests.proofs.reading.find.Tie as tie
+
+abbrev invariant-loop : tie.invariant-loop
+invariant-loop bytes from x i₀ i = (from ≤ i) × (i ≤ length bytes)
+
+abbrev decreases-loop : tie.decreases-loop
+decreases-loop bytes from x i₀ i = length bytes - i
+
+loop-holds : tie.Need-loop-init invariant-loop decreases-loop
+loop-holds c = search rules
+
+shared-slice-read-if1 : tie.Need-shared-slice-read-if1 invariant-loop decreases-loop
+shared-slice-read-if1 c = search rules
+
+returns : tie.Need-returns invariant-loop decreases-loop
+returns c = (omega arith, (omega arith, sym (length-take-le _ _ (omega arith))))
+
+add-i : tie.Need-overflow-add-i invariant-loop decreases-loop
+add-i c = search rules
+
+loop-less : tie.Need-loop-smaller invariant-loop decreases-loop
+loop-less c = search rules
+
+loop-again : tie.Need-loop-preserved invariant-loop decreases-loop
+loop-again c = search rules
+
+returns-2 : tie.Need-returns-2 invariant-loop decreases-loop
+returns-2 c = (omega arith, (omega arith, sym (length-take-le _ _ (omega arith))))
+
+pub find_spec : {M : Type 1} → statement M
+find_spec =
+    tie.close
+    (tie.spec
+    invariant-loop
+    decreases-loop
+    loop-holds
+    shared-slice-read-if1
+    returns
+    add-i
+    loop-less
+    loop-again
+    returns-2)

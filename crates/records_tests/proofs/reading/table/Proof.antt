@@ -1,0 +1,61 @@
+-- `reading::table` is safe and ends: each line ends behind where it starts. Assumes nothing.
+use Rattle.std.proofs.Common.{◌-◌, length, rules}
+use Rattle.records_tests.proofs.reading.table.Statement.{statement}
+use Rattle.records_tests.proofs.reading.table.Tie as tie
+
+abbrev invariant-loop : tie.invariant-loop
+invariant-loop input from₀ from = Unit {0}
+
+abbrev decreases-loop : tie.decreases-loop
+decreases-loop input from₀ from = length input - from
+
+loop-holds : tie.Need-loop-init invariant-loop decreases-loop
+loop-holds c = search rules
+
+find-requires : tie.Need-find-requires invariant-loop decreases-loop
+find-requires c κs = search rules
+
+sub-line : tie.Need-overflow-sub-line invariant-loop decreases-loop
+sub-line c = search rules
+
+part-line-start : tie.Need-slice-bounds-line-start invariant-loop decreases-loop
+part-line-start c = search rules
+
+part-line-end : tie.Need-slice-bounds-line-end invariant-loop decreases-loop
+part-line-end c = search rules
+
+line-requires : tie.Need-line-requires invariant-loop decreases-loop
+line-requires c κs = search rules
+
+returns : tie.Need-returns invariant-loop decreases-loop
+returns c = search rules
+
+add-from : tie.Need-overflow-add-from invariant-loop decreases-loop
+add-from c = search rules
+
+loop-less : tie.Need-loop-smaller invariant-loop decreases-loop
+loop-less c = search rules
+
+loop-again : tie.Need-loop-preserved invariant-loop decreases-loop
+loop-again c = search rules
+
+returns-2 : tie.Need-returns-2 invariant-loop decreases-loop
+returns-2 c = search rules
+
+pub table-spec : {M : Type 1} → statement M
+table-spec =
+    tie.close
+    (tie.spec
+    invariant-loop
+    decreases-loop
+    loop-holds
+    find-requires
+    sub-line
+    part-line-start
+    part-line-end
+    line-requires
+    returns
+    add-from
+    loop-less
+    loop-again
+    returns-2)

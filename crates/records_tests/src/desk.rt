@@ -1,0 +1,109 @@
+// What the ticket desk is shown of a record: its kind, its own serial as stored, and the part of its bytes with the roster's serials.
+ghost use Rattle.std.specs.Prelude.{◌≤◌};
+
+use crate::{lists, reading, say, streams};
+use histories::Kind;
+use records::Sight;
+use sets::Place;
+
+// For the group of 1 and 2 whose second serials are 8 and 9.
+pub fn seen(name: &[u8], bytes: &[u8]) {
+    let firsts = [1u32, 2];
+    let seconds = [8u32, 9];
+    let mut roster = &bytes[..0];
+    let got = records::read_desk(bytes, &firsts, &seconds, &mut roster);
+    say::sight(name, got, roster);
+}
+
+// For a group without second serials, over a slice that is there before.
+fn over(name: &[u8], bytes: &[u8], before: usize) {
+    let list = [0u32; 1];
+    let none = &list[..0];
+    let mut roster = &bytes[..0];
+    if before <= bytes.len() {
+        roster = &bytes[..before];
+    }
+    let got = records::read_desk(bytes, none, none, &mut roster);
+    say::sight(name, got, roster);
+}
+
+// The slice stays the one it was where the record is refused.
+pub fn kept() {
+    let whole = b"\x02\x00\x00\x00\x01\x01\x00\x00\x00\x01\x00";
+    let cut = b"\x02\x00\x00\x00\x01\x01\x00\x00\x00";
+    over(b"seen, over a slice of 3", whole, 3);
+    over(b"refused, over a slice of 3", cut, 3);
+    over(b"refused, over all of it", cut, 9);
+}
+
+fn one_if_seen(got: Sight) -> usize
+    ensures { result ≤ 1 }
+{
+    match got {
+        Sight::Seen(_, _) => 1,
+        Sight::Refused(_) => 0,
+    }
+}
+
+// 1 where the desk is shown something of bytes that `read_lone` refuses by a number, 0 elsewhere.
+fn shown_but_refused(bytes: &[u8], fault: u8) -> usize
+    ensures { result ≤ 1 }
+{
+    let list = [0u32; 1];
+    let none = &list[..0];
+    let mut roster = &bytes[..0];
+    let got = records::read_desk(bytes, none, none, &mut roster);
+    if one_if_seen(got) == 0 {
+        return 0;
+    }
+    streams::one_if(reading::read_lone(bytes), fault)
+}
+
+// How many cuts of the bytes, from none of them on, are shown to the desk and so refused.
+fn cuts(bytes: &[u8], fault: u8) -> usize {
+    let mut n = 0;
+    let mut k = 0;
+    while k < bytes.len() {
+        let one = shown_but_refused(&bytes[..k], fault);
+        n += one;
+        k += 1;
+    }
+    n
+}
+
+// Every cut of a good record of 27 bytes, 9 of them after its roster's end.
+pub fn all_cuts() {
+    let bytes =
+        b"\x02\x00\x00\x00\x09\x03\x00\x00\x00\x07\x00\x00\x00\x09\x00\x00\x00\x0c\x02\x00\x00\x00\x07\x00\x00\x00\x0c";
+    for fault in 1u8..9 {
+        say::text(b"cuts that the desk is shown and read_lone refuses by ");
+        say::number(fault as usize);
+        say::count(b"", cuts(bytes, fault));
+    }
+}
+
+// The first n bytes of a record for a group without second serials: whether they are shown, and how long the part is.
+fn front(name: &[u8], bytes: &[u8], n: usize) {
+    if bytes.len() < n {
+        return;
+    }
+    let those = &bytes[..n];
+    let list = [0u32; 1];
+    let none = &list[..0];
+    let mut roster = &those[..0];
+    let got = records::read_desk(those, none, none, &mut roster);
+    say::count(name, one_if_seen(got));
+    say::count(b"bytes in its part", roster.len());
+}
+
+// The longest record, cut at its roster's end, and one byte before.
+pub fn longest() {
+    let mut list = [0u32; 128];
+    lists::fill(&mut list, 65536);
+    let mut out = [0u8; 1031];
+    let all = places::below(128);
+    writes::write(Kind::Full, Place(127), &list, all, &mut out, 0);
+    front(b"the longest record is shown", &out, 1031);
+    front(b"cut at its roster's end", &out, 518);
+    front(b"cut one byte earlier", &out, 517);
+}
