@@ -1,4 +1,6 @@
 // What a recovery answers of its places: one, all in a list, the whole, what to fetch, the unmourned ones.
+#![tactic(auto)]
+
 ghost use Rattle.std.specs.Prelude.{◌≡◌, ◌<◌};
 ghost use Rattle.sets.specs.PlaceSets.{has};
 ghost use Rattle.calls.specs.Promises.{asked, settled_of, fetching_of, unmourned_of, unmourned_absent_of, unmourned_count_of, listed_of};

@@ -1,4 +1,6 @@
 // The answer for a place: its blockers, and whether any place has one.
+#![tactic(auto)]
+
 ghost use Rattle.std.specs.Prelude.{◌≡◌, not, cond, ◌&&◌};
 ghost use Rattle.sets.specs.Sets as sets;
 ghost use Rattle.sets.specs.PlaceSets.{has};

@@ -1,5 +1,7 @@
 // A recovery: what each call on it gives, for every recovery and every input, and what holds of whole lists of calls: demand 3, what stays
 // decided, the order of records, the round trips. The functions stand in `openings`, `offerings`, `askings` and `showings`.
+#![tactic(auto)]
+
 use answers::{Giving, Reply};
 use rows::Rows;
 use sets::PlaceSet;
@@ -7,7 +9,7 @@ use sets::PlaceSet;
 // The first `count` of `serials` are the roster, and `seconds` has the second serial of each place, 0 where it was given none. A place in
 // `returned` is back, and its row is its record's mourned set; every other row is empty. `full` has those back whose record is full,
 // `mourned` all that stand in a row, and `earlier` those before a place of `full`.
-#[derive(Drop)]
+#[derive(Clone, Copy)]
 pub struct Recovery {
     pub count: usize,
     pub serials: [u32; 128],
@@ -19,34 +21,34 @@ pub struct Recovery {
     pub rows: Rows,
 }
 
-#[derive(Drop)]
+#[derive(Clone, Copy)]
 pub enum Opening {
     Opened,
     Refused(u8),
 }
 
 // What opening gives: where it is refused, the recovery has no places.
-#[derive(Drop)]
+#[derive(Clone, Copy)]
 pub struct Opened {
     pub answer: Opening,
     pub recovery: Recovery,
 }
 
 // What offering gives: where nothing was taken, the recovery is as it was.
-#[derive(Drop)]
+#[derive(Clone, Copy)]
 pub struct Offered {
     pub answer: Reply,
     pub recovery: Recovery,
 }
 
 // What giving a second serial gives: where it is refused, the recovery is as it was.
-#[derive(Drop)]
+#[derive(Clone, Copy)]
 pub struct Gave {
     pub answer: Giving,
     pub recovery: Recovery,
 }
 
-#[derive(Drop)]
+#[derive(Clone, Copy)]
 pub enum Asked {
     Last,
     NotLast,
@@ -54,7 +56,7 @@ pub enum Asked {
     Refused(u8),
 }
 
-#[derive(Drop)]
+#[derive(Clone, Copy)]
 pub enum Checked {
     Fits,
     FitsNot,

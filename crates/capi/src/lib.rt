@@ -1,6 +1,8 @@
 // A recovery as C links it: nine words, 128 serials, 128 second serials and 2,048 bytes of rows in the caller's memory. Opening, offering,
 // finding and giving. Nothing is kept between calls, and every input has an answer: include/goatmonth.h says what a caller
 // promises of its pointers. What the words and numbers mean stands in `boundary`.
+#![tactic(auto)]
+
 ghost use Rattle.std.specs.Prelude.{◌≡◌, List, ℕ, length};
 ghost use Rattle.sets.specs.PlaceSets.{has};
 ghost use Rattle.calls.specs.Promises.{keeping_full, keeping_row, keeping, answered, found_in, given};

@@ -1,5 +1,7 @@
 // What a recovery answers of its places, as C asks it. Nothing is kept between calls, and every input has an answer: include/goatmonth.h says what a caller
 // promises of its pointers. What the words and numbers mean stands in `boundary`.
+#![tactic(auto)]
+
 ghost use Rattle.std.specs.Prelude.{◌≡◌, List, ℕ};
 ghost use Rattle.calls.specs.Promises.{asked, settled_of, unmourned_of, unmourned_absent_of, unmourned_count_of, listed_of};
 ghost use Rattle.boundary.specs.Words.{yes_code};

@@ -1,5 +1,7 @@
 // A day of stops as C plays it: four words, 128 serials and 2,048 bytes of rows in the caller's memory. Nothing is kept between calls, and every input has an answer: include/goatmonth.h says what a caller
 // promises of its pointers. What the words and numbers mean stands in `boundary`.
+#![tactic(auto)]
+
 ghost use Rattle.std.specs.Prelude.{◌≡◌, cond, [], ◌∷◌, length, get_or, ltb};
 ghost use Rattle.executions.specs.Promises as days;
 ghost use Rattle.boundary.specs.Words.{end_of};

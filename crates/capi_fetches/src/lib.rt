@@ -1,5 +1,7 @@
 // What a crew has to fetch, as C asks it of a recovery. Nothing is kept between calls, and every input has an answer: include/goatmonth.h says what a caller
 // promises of its pointers. What the words and numbers mean stands in `boundary`.
+#![tactic(auto)]
+
 ghost use Rattle.std.specs.Prelude.{◌≡◌, List, ℕ, ◌≤◌};
 ghost use Rattle.calls.specs.Promises.{fetching_of};
 ghost use Rattle.games.specs.Games.{played};

@@ -1,5 +1,7 @@
 // Histories shown and checked, and a returned record written, as C asks them of a recovery. Nothing is kept between calls, and every input has an answer: include/goatmonth.h says what a caller
 // promises of its pointers. What the words and numbers mean stands in `boundary`.
+#![tactic(auto)]
+
 ghost use Rattle.std.specs.Prelude.{◌≡◌, List, ℕ, length};
 ghost use Rattle.calls.specs.Promises.{shown, checked, written_of};
 ghost use Rattle.boundary.specs.Words.{end_of};

@@ -1,5 +1,7 @@
 // Stored records as C reads and writes them: no recovery and no day is needed. Nothing is kept between calls, and every input has an answer: include/goatmonth.h says what a caller
 // promises of its pointers. What the words and numbers mean stands in `boundary`.
+#![tactic(auto)]
+
 ghost use Rattle.std.specs.Prelude.{◌≡◌, []};
 ghost use Rattle.sets.specs.PlaceSets.{has};
 ghost use Rattle.serials.specs.Seconds.{counts_as};

@@ -1,4 +1,6 @@
 // Who is before whom, by chains of recorded rows.
+#![tactic(auto)]
+
 ghost use Rattle.std.specs.Prelude.{◌≡◌, not};
 ghost use Rattle.sets.specs.PlaceSets.{has};
 ghost use Rattle.histories.specs.Rule as rule;

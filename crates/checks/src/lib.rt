@@ -1,5 +1,7 @@
 // The check of a lent history: its rows stand at the front of some bytes, 16 bytes each, in roster order. `count` is the roster's length (one
 // above 128 counts as 128).
+#![tactic(auto)]
+
 ghost use Rattle.std.specs.Prelude.{◌≡◌, true, false, not, ◌&&◌, ◌||◌, ℕ, ◌-◌, ◌<◌, ◌≤◌, get_or};
 ghost use Rattle.sets.specs.Sets.{intersection, any, all, subset, same};
 ghost use Rattle.sets.specs.PlaceSets.{has};

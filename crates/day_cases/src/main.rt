@@ -8,6 +8,8 @@
 //     write PLACE ROOM AT   a record into a buffer of so many bytes
 //     bring PLACES          their records, offered one after the other to a recovery that was opened with the day's list
 //     tell                  what the recovery then answers of each place: l last, n not, o open
+#![tactic(auto)]
+
 ghost use Rattle.std.specs.Prelude.{◌≤◌};
 
 use days::{Day, Event, Played};
@@ -18,7 +20,7 @@ use sets::Place;
 use trials::{outcomes, parts, say};
 
 // A day, a recovery of its list, and whether serials are multiples of 65536.
-#[derive(Drop)]
+#[derive(Clone, Copy)]
 struct Stage {
     day: Day,
     recovery: Recovery,

@@ -1,4 +1,6 @@
 // One event of a day: a stop or a hearing, allowed or refused. A day goes in by value and comes back by value.
+#![tactic(auto)]
+
 ghost use Rattle.std.specs.Prelude.{◌≡◌};
 ghost use Rattle.sets.specs.Sets as sets;
 ghost use Rattle.sets.specs.PlaceSets.{has};

@@ -1,4 +1,6 @@
 // A list of events, played one after another up to the first refusal.
+#![tactic(auto)]
+
 ghost use Rattle.std.specs.Prelude.{◌≡◌};
 ghost use Rattle.executions.specs.Promises as contracts;
 ghost use Rattle.executions.specs.Promises.{one_more, stepped, played};

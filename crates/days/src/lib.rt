@@ -1,4 +1,6 @@
 // A day of stops, under one name.
+#![tactic(auto)]
+
 pub use day_events::happen;
 pub use day_plays::{play, step};
 pub use day_records::{open, write};

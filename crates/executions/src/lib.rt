@@ -1,12 +1,14 @@
 // A day of stops (an execution): who has stopped, and whom each has heard stop; what each call on a day gives, and what holds of the records of a day
 // that is over. The functions stand in `day_records`, `day_events` and `day_plays`.
+#![tactic(auto)]
+
 use histories::Kind;
 use rows::Rows;
 use sets::{Place, PlaceSet};
 
 // The first `count` of `serials` are the roster. A place in `stopped` runs no more; its row, and that of one that runs, are the places that it
 // has heard stop.
-#[derive(Drop)]
+#[derive(Clone, Copy)]
 pub struct Day {
     pub kind: Kind,
     pub count: usize,
@@ -15,21 +17,21 @@ pub struct Day {
     pub rows: Rows,
 }
 
-#[derive(Drop)]
+#[derive(Clone, Copy)]
 pub enum Opening {
     Opened,
     Refused(u8),
 }
 
 // What opening gives: where it is refused, the day has no places.
-#[derive(Drop)]
+#[derive(Clone, Copy)]
 pub struct Begun {
     pub answer: Opening,
     pub day: Day,
 }
 
 // An event: of kind 1, `place` stops; of kind 2, `place` hears that `other` has stopped. No other kind is allowed.
-#[derive(Drop)]
+#[derive(Clone, Copy)]
 pub struct Event {
     pub kind: u8,
     pub place: Place,
@@ -37,14 +39,14 @@ pub struct Event {
 }
 
 // What one event gives: its refusal, or 0, and the day after it.
-#[derive(Drop)]
+#[derive(Clone, Copy)]
 pub struct Happened {
     pub refusal: u8,
     pub day: Day,
 }
 
 // What a list of events gives: how many were played, the refusal that ended the play, or 0, and the day after those played.
-#[derive(Drop)]
+#[derive(Clone, Copy)]
 pub struct Played {
     pub count: usize,
     pub refusal: u8,

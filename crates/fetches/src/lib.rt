@@ -1,5 +1,7 @@
 // How many places a crew has to fetch at most until the whole is settled, and which place next, by the parts of a recovery: no copy of the
 // whole is needed.
+#![tactic(auto)]
+
 ghost use Rattle.std.specs.Prelude.{◌≡◌};
 ghost use Rattle.sets.specs.PlaceSets.{has};
 ghost use Rattle.answers.specs.Views.{size, accepted_in};

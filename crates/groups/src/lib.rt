@@ -1,5 +1,7 @@
 // A group's serials, by its parts: how many places there are, their first serials, and their second ones, 0 where a place has none. Serials
 // behind the roster are not looked at.
+#![tactic(auto)]
+
 ghost use Rattle.std.specs.Prelude.{◌≡◌, not, eqb, length, get_or};
 ghost use Rattle.layouts.specs.Records.{reading_lone};
 ghost use Rattle.answers.specs.Groups.{roster_length, alias_in, found_among, is_found, giving};

@@ -1,4 +1,6 @@
 // A stored record as far as its roster's end: kind, own serial, roster. The ticket desk sees no more.
+#![tactic(auto)]
+
 ghost use Rattle.std.specs.Prelude.{◌≡◌, ◌≤◌, ℕ, ◌+◌, ◌*◌, ◌<◌, length, take, drop};
 ghost use Rattle.sets.specs.PlaceSets.{found};
 ghost use Rattle.serials.specs.Rosters.{place_from};

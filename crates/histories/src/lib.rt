@@ -2,7 +2,9 @@
 // stand in specs/, the theorems in proofs/; of code there is only the kind.
 // Document 01's kind of a record: whether a controller knew of every stop before its own (full), or only of those that it
 // heard itself (short).
-#[derive(Drop)]
+#![tactic(auto)]
+
+#[derive(Clone, Copy)]
 pub enum Kind {
     Full,
     Short,

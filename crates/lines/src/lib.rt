@@ -1,5 +1,7 @@
 // The lines of the program's output, laid into a lent buffer from a position on. Where a line does not fit, nothing changes and the answer is
 // refusal 13.
+#![tactic(auto)]
+
 ghost use Rattle.std.specs.Prelude.{◌≡◌, ◌++◌, ◌+◌, ◌≤◌, length};
 ghost use Rattle.layouts.specs.Records.{written_at};
 ghost use Rattle.layouts.specs.Fronts.{front};

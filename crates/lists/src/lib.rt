@@ -1,4 +1,6 @@
 // Listing the answers of all places, one byte each, by the parts of a recovery: no copy of the whole is needed.
+#![tactic(auto)]
+
 ghost use Rattle.std.specs.Prelude.{◌≡◌, cond, ◌*◌, ◌^◌, ◌/◌, ◌%◌, ◌≤◌, ◌<◌, length};
 ghost use Rattle.sets.specs.PlaceSets.{bit, has};
 ghost use Rattle.answers.specs.Views.{size, accepted_in};

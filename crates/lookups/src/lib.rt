@@ -1,4 +1,6 @@
 // Finding a serial on a roster, as a first serial or as a second one.
+#![tactic(auto)]
+
 ghost use Rattle.std.specs.Prelude.{◌≡◌, ◌+◌, ◌/◌, ◌<◌, length};
 ghost use Rattle.sets.specs.PlaceSets.{found};
 ghost use Rattle.serials.specs.Rosters.{place_of, place_from};

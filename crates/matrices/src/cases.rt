@@ -6,7 +6,7 @@ use trials::tallies::Tally;
 use trials::{say, tallies};
 
 // A pile and an order of its records.
-#[derive(Drop)]
+#[derive(Clone, Copy)]
 pub struct Case {
     pub n: usize,
     pub pile: u32,

@@ -1,6 +1,8 @@
 // The second reckoning: histories of at most four places, all of them, one after another. A history is a matrix of 16 bits: the row
 // of place q is the four bits from 4 q on, and place p its bit p. Listed, it has in its high half all bits of those rows that hold
 // everyone before their place.
+#![tactic(auto)]
+
 ghost use Rattle.std.specs.Prelude.{◌≤◌, ◌<◌};
 
 pub mod cases;
@@ -9,7 +11,7 @@ use trials::outcomes;
 
 // What a pile fixes of a listed history: all bits of the returned places' rows, those of the full ones in the high half too, and what
 // they are.
-#[derive(Drop)]
+#[derive(Clone, Copy)]
 pub struct Pile {
     pub mask: u32,
     pub rows: u32,

@@ -1,5 +1,7 @@
 // The game of document 02, [6], played out on a small roster: a crew fetches an absent place, the hill hands over a record of it that is not
 // refused, and so on until the whole is settled. The crew looks for the fewest fetches, the hill for the most.
+#![tactic(auto)]
+
 ghost use Rattle.std.specs.Prelude.{◌≡◌, true, ◌-◌, ◌≤◌, ◌<◌, min, max};
 ghost use Rattle.sets.specs.PlaceSets.{has};
 ghost use Rattle.calls.specs.Promises.{size_of};

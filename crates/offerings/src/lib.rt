@@ -1,4 +1,6 @@
 // Offering a stored record to a recovery: it is read, judged, and kept where it is taken.
+#![tactic(auto)]
+
 ghost use Rattle.std.specs.Prelude.{◌≡◌};
 ghost use Rattle.sets.specs.PlaceSets.{has};
 ghost use Rattle.answers.specs.Replies.{judgement};

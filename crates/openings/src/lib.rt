@@ -1,4 +1,6 @@
 // Opening a recovery, and its group's serials: finding one, giving a place a second one. A recovery goes in by value and comes back by value.
+#![tactic(auto)]
+
 ghost use Rattle.std.specs.Prelude.{◌≡◌, ◌≤◌, ◌<◌, length};
 ghost use Rattle.calls.specs.Promises as contracts;
 ghost use Rattle.calls.specs.Promises.{opened, found_in, with_second, given};

@@ -1,4 +1,6 @@
 // A recovery beside its pile: records offered in an order, each outcome held to the pile's.
+#![tactic(auto)]
+
 pub mod alike;
 pub mod laid;
 
@@ -8,7 +10,7 @@ use recovery::{Offered, Recovery};
 use trials::tallies::Tally;
 use trials::{outcomes, parts, stored};
 
-#[derive(Drop)]
+#[derive(Clone, Copy)]
 pub struct Group {
     pub recovery: Recovery,
     pub pile: Pile,

@@ -1,5 +1,7 @@
 // Sets of the places 0 to 127. Contracts speak of a set by its members (`has`): above this crate only `row_bytes`, `lists`, `minimax` and the
 // crates for C, for which a set is bytes, a number or words, look at the two words.
+#![tactic(auto)]
+
 ghost use Rattle.std.specs.Prelude.{◌≡◌, not, ℕ, ◌<◌, ltb};
 ghost use Rattle.sets.specs.Sets as sets;
 ghost use Rattle.sets.specs.PlaceSets.{bit, has, kept, found};

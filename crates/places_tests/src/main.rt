@@ -1,4 +1,6 @@
 // A client of `places`: it walks the members of a set, proved from the laws alone, and prints some sets.
+#![tactic(auto)]
+
 ghost use Rattle.std.specs.Prelude.{◌≡◌};
 ghost use Rattle.sets.specs.Sets as sets;
 ghost use Rattle.sets.specs.PlaceSets.{has};

@@ -1,5 +1,7 @@
 // The second reckoning of a day of two or three controllers. A set of places is the sum of their bits; the row of place p is the four bits
 // from 4 p on.
+#![tactic(auto)]
+
 pub mod lists;
 
 use crate::lists::Turn;
@@ -7,7 +9,7 @@ use trials::outcomes;
 
 // A day of two or three controllers after some events: those who have stopped, whom each has heard, how many events were played, and the
 // refusal that the last one met, or 0.
-#[derive(Drop)]
+#[derive(Clone, Copy)]
 pub struct Plain {
     pub kind: u8,
     pub n: usize,

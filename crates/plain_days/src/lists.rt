@@ -6,7 +6,7 @@ use trials::tallies::Tally;
 use trials::{say, tallies};
 
 // A day's kind and roster, and a list.
-#[derive(Drop)]
+#[derive(Clone, Copy)]
 pub struct Case {
     pub kind: u8,
     pub n: usize,
@@ -15,7 +15,7 @@ pub struct Case {
 }
 
 // An event: kind 1 stops p, kind 2 has p hear of q.
-#[derive(Drop)]
+#[derive(Clone, Copy)]
 pub struct Turn {
     pub kind: u8,
     pub p: usize,

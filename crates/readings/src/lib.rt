@@ -1,4 +1,6 @@
 // Reading stored records: the mourned serials behind a head, a record that others may follow, a lone one, and one whose roster is likely known.
+#![tactic(auto)]
+
 ghost use Rattle.std.specs.Prelude.{◌≡◌, [], ◌+◌, ◌*◌, ◌≤◌, ◌<◌, length, drop, true};
 ghost use Rattle.sets.specs.Sets.{nothing};
 ghost use Rattle.serials.specs.Rosters.{first_repeat};

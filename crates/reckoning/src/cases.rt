@@ -6,7 +6,7 @@ use crate::tallies::Tally;
 use crate::{outcomes, say, tallies};
 
 // A pile and an order of its records.
-#[derive(Drop)]
+#[derive(Clone, Copy)]
 pub struct Case {
     pub n: usize,
     pub pile: u32,

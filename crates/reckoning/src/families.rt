@@ -8,7 +8,7 @@ use crate::{alike, buffers, cases, matrices, parts, piles, seconds, tallies};
 // What is tried of a pile: its records in every order and the answers then, or only if they are of one kind, or in one order; or what
 // is left in every order; or records in second serials after it; or all that is shown and written in one order, with every matrix
 // checked or a sample of them.
-#[derive(Drop)]
+#[derive(Clone, Copy)]
 enum Trial {
     Orders,
     OneKind,

@@ -9,14 +9,14 @@ use serials::Serial;
 use sets::Place;
 
 // A list of givings: a number in base 15, the first giving lowest; a digit is 5 times the place and one of the five serials.
-#[derive(Drop)]
+#[derive(Clone, Copy)]
 struct Case {
     n: usize,
     list: u32,
 }
 
 // A recovery beside its second serials.
-#[derive(Drop)]
+#[derive(Clone, Copy)]
 struct Stand {
     recovery: Recovery,
     boards: Boards,

@@ -3,6 +3,8 @@
 // differs, with all that it takes to repeat it: the roster's length, the records in order as KIND:PLACE:SET, the call, and both outcomes.
 // A set is the sum of its places' bits. Fetches are reckoned from the same list, and the game of fetches by a table over all piles. Board
 // swaps have a second reckoning of their own, of two places and few serials.
+#![tactic(auto)]
+
 mod alike;
 mod boards;
 mod buffers;

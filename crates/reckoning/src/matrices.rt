@@ -7,7 +7,7 @@ use crate::outcomes;
 
 // What a pile fixes of a listed history: all bits of the returned places' rows, those of the full ones in the high half too, and what
 // they are.
-#[derive(Drop)]
+#[derive(Clone, Copy)]
 pub struct Pile {
     pub mask: u32,
     pub rows: u32,

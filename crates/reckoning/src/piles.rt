@@ -7,7 +7,7 @@ use crate::{cases, listings, matrices, outcomes, parts, stored, told};
 use recovery::{Offered, Recovery};
 use sets::Place;
 
-#[derive(Drop)]
+#[derive(Clone, Copy)]
 pub struct Group {
     pub recovery: Recovery,
     pub pile: Pile,

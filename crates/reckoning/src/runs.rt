@@ -6,7 +6,7 @@ use serials::Serial;
 use sets::Place;
 
 // The kind is that of the records that are offered and written from here on.
-#[derive(Drop)]
+#[derive(Clone, Copy)]
 pub struct Run {
     pub case: u64,
     pub kind: u8,

@@ -9,7 +9,7 @@ use serials::Serial;
 use sets::Place;
 
 // A record: its kind, its place, its mourned set, whether its own serial is the second one, and which of the mourned ones are.
-#[derive(Drop)]
+#[derive(Clone, Copy)]
 struct Mixed {
     kind: u8,
     place: usize,
@@ -19,7 +19,7 @@ struct Mixed {
 }
 
 // A recovery after a giving.
-#[derive(Drop)]
+#[derive(Clone, Copy)]
 struct Given {
     recovery: Recovery,
     tally: Tally,

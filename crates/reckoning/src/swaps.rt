@@ -4,7 +4,7 @@ ghost use Rattle.std.specs.Prelude.{◌≤◌};
 use crate::outcomes;
 
 // At most three serials; those past their number are not looked at.
-#[derive(Drop)]
+#[derive(Clone, Copy)]
 pub struct Few {
     pub n: usize,
     pub a: u32,
@@ -13,7 +13,7 @@ pub struct Few {
 }
 
 // The second serials of the two places, 0 for none.
-#[derive(Drop)]
+#[derive(Clone, Copy)]
 pub struct Boards {
     pub of_0: u32,
     pub of_1: u32,

@@ -10,7 +10,7 @@ use days::Day;
 use recovery::Recovery;
 
 // Whether a list ends at its first refusal, or goes on after it.
-#[derive(Drop)]
+#[derive(Clone, Copy)]
 enum Trial {
     Played,
     Happened,

@@ -1,6 +1,8 @@
 // The public functions of a day beside a plain second reckoning: a set of those who have stopped, and a row for each controller. One
 // line for each family of cases; before it one for the first case that differs, with all that it takes to repeat it: the day's kind, the
 // roster's length, the events in order as KIND:PLACE:OTHER, what was looked at, and both outcomes.
+#![tactic(auto)]
+
 mod families;
 mod lists;
 mod named;

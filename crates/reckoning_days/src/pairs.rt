@@ -6,7 +6,7 @@ use crate::{lists, outcomes, parts, plain, stored};
 use days::{Day, Event, Played};
 use sets::Place;
 
-#[derive(Drop)]
+#[derive(Clone, Copy)]
 pub struct Pair {
     pub played: Played,
     pub plain: Plain,

@@ -4,7 +4,7 @@ use crate::outcomes;
 
 // A day of two or three controllers after some events: those who have stopped, whom each has heard, how many events were played, and the
 // refusal that the last one met, or 0.
-#[derive(Drop)]
+#[derive(Clone, Copy)]
 pub struct Plain {
     pub kind: u8,
     pub n: usize,

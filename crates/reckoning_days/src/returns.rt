@@ -11,7 +11,7 @@ use records::Writing;
 use recovery::{Offered, Recovery};
 use sets::Place;
 
-#[derive(Drop)]
+#[derive(Clone, Copy)]
 struct Back {
     recovery: Recovery,
     tally: Tally,

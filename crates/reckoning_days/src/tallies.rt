@@ -1,7 +1,7 @@
 // A family's cases: how many were tried, and how many differ. Only the first that differs is printed.
 use crate::{outcomes, say};
 
-#[derive(Drop)]
+#[derive(Clone, Copy)]
 pub struct Tally {
     pub tried: u64,
     pub differing: u64,

@@ -10,7 +10,7 @@ use trials::{parts, tallies};
 
 // What is tried of a pile: what is left in every order of its records; or all that is shown and written in one order, with every matrix
 // checked or a sample of them.
-#[derive(Drop)]
+#[derive(Clone, Copy)]
 enum Trial {
     Alike,
     Histories,

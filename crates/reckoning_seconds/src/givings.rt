@@ -9,7 +9,7 @@ use trials::tallies::Tally;
 use trials::{outcomes, parts, tallies};
 
 // A recovery beside its second serials.
-#[derive(Drop)]
+#[derive(Clone, Copy)]
 struct Stand {
     recovery: Recovery,
     boards: Boards,

@@ -10,7 +10,7 @@ use trials::tallies::Tally;
 use trials::{outcomes, parts, say, stored, tallies, written};
 
 // A record: its kind, its place, its mourned set, whether its own serial is the second one, and which of the mourned ones are.
-#[derive(Drop)]
+#[derive(Clone, Copy)]
 struct Mixed {
     kind: u8,
     place: usize,
@@ -20,7 +20,7 @@ struct Mixed {
 }
 
 // A recovery after a giving.
-#[derive(Drop)]
+#[derive(Clone, Copy)]
 struct Given {
     recovery: Recovery,
     tally: Tally,

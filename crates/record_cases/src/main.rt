@@ -12,6 +12,8 @@
 //     numbers SERIALS                         what an opening with them meets, and the first fault along them
 //     query SERIAL FROM: ROSTER               where a serial stands, looked for from a place on first
 //     write KIND PLACE ROOM AT: ROSTER: PLACES      a record written; the buffer is then the bytes to read
+#![tactic(auto)]
+
 mod commands;
 mod lists;
 mod reading;

@@ -1,13 +1,13 @@
 // What a line finds: bytes to read, the group's first and second serials, and whether serials are multiples of 65536.
 
 // A list of serials.
-#[derive(Drop)]
+#[derive(Clone, Copy)]
 pub struct Serials {
     pub count: usize,
     pub of: [u32; 300],
 }
 
-#[derive(Drop)]
+#[derive(Clone, Copy)]
 pub struct Stage {
     pub wide: bool,
     pub length: usize,

@@ -1,4 +1,6 @@
 // Stored records, under one name: reading, the ticket desk's too, and a roster in bytes.
+#![tactic(auto)]
+
 pub use heads::read_desk;
 pub use layouts::{Reading, Record, Sight, Writing};
 pub use readings::{read, read_like, read_lone};

@@ -1,4 +1,6 @@
 // Cases of reading and writing records and of lists taken as rosters, each with its answer on a line.
+#![tactic(auto)]
+
 mod beside;
 mod desk;
 mod lists;

@@ -1,4 +1,6 @@
 // Document 01's program: it reads records from standard input, and writes a line for each, one for each place and one for the whole.
+#![tactic(auto)]
+
 mod listing;
 mod offering;
 mod output;

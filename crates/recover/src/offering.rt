@@ -11,7 +11,7 @@ use records::{Reading, Record};
 use recovery::Recovery;
 
 // What the input leaves: its recovery, of no places where none was opened, and how much of the output is gathered.
-#[derive(Drop)]
+#[derive(Clone, Copy)]
 pub struct Finished {
     pub recovery: Recovery,
     pub used: usize,

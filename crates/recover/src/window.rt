@@ -5,7 +5,7 @@ ghost use Rattle.recover.specs.Windows.{ahead, Inside, Enough, StartsWith};
 use libc::STDIN_FILENO;
 
 // `ended`: the input has no bytes behind these.
-#[derive(Drop)]
+#[derive(Clone, Copy)]
 pub struct Window {
     pub at: usize,
     pub have: usize,

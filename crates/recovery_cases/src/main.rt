@@ -13,6 +13,8 @@
 //     check LENGTH AT BYTE ..             a history of zeros but for these bytes
 //     write PLACE ROOM AT
 //     play                                the game of fetches
+#![tactic(auto)]
+
 mod asking;
 mod lending;
 mod offering;

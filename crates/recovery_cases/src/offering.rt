@@ -7,7 +7,7 @@ use sets::Place;
 use trials::{outcomes, parts, say};
 
 // A recovery, and whether serials are multiples of 65536.
-#[derive(Drop)]
+#[derive(Clone, Copy)]
 pub struct Stage {
     pub recovery: Recovery,
     pub wide: bool,

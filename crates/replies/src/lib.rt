@@ -1,4 +1,6 @@
 // What a group replies to a record that was read, judged by the parts of a recovery: no copy of the whole is needed.
+#![tactic(auto)]
+
 ghost use Rattle.std.specs.Prelude.{◌≡◌, true, cond, ◌&&◌};
 ghost use Rattle.sets.specs.Sets as sets;
 ghost use Rattle.sets.specs.PlaceSets.{has};

@@ -1,4 +1,6 @@
 // Serials and rosters in stored bytes, four bytes a serial, the highest first: read with their faults, compared with a list, copied.
+#![tactic(auto)]
+
 ghost use Rattle.std.specs.Prelude.{◌≡◌, [], ◌++◌, ◌+◌, ◌*◌, ◌≤◌, ◌<◌, length, take, drop, get_or, true, ◌&&◌, eqb};
 ghost use Rattle.layouts.specs.Layout.{serial, roster_section, word_at, roster_serials};
 ghost use Rattle.layouts.specs.Records.{serials, roster_there, same_list, roster_is, copiable, copied};

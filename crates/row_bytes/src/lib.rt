@@ -1,4 +1,6 @@
 // A row as 16 bytes, laid and read. With `places` this is the only crate of the library that looks into the two words of a set.
+#![tactic(auto)]
+
 ghost use Rattle.std.specs.Prelude.{◌≡◌, ◌++◌, ℕ, ◌*◌, ◌<◌, ◌≤◌, ◌/◌, ◌%◌, length, get_or, drop};
 ghost use Rattle.sets.specs.PlaceSets.{bit, has};
 ghost use Rattle.rows.specs.Rows.{bytes_from, put_row, row_in};

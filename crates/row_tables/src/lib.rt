@@ -1,4 +1,6 @@
 // Tables of rows, a row for each of 128 places.
+#![tactic(auto)]
+
 ghost use Rattle.std.specs.Prelude.{◌≡◌, cond, ◌&&◌, ◌++◌, ◌*◌, ◌<◌, ◌≤◌, ◌/◌, leb, length, take, drop};
 ghost use Rattle.rows.specs.Rows.{no_rows, row_at, rows_of, with_row, laid};
 

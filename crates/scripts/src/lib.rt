@@ -1,18 +1,20 @@
 // Scripts of test cases: lines of words, decimal numbers and hexadecimal bytes, taken apart; and bytes printed in runs.
+#![tactic(auto)]
+
 ghost use Rattle.std.specs.Prelude.{◌-◌, ◌<◌, ◌≤◌, length};
 
 use libc::STDOUT_FILENO;
 use trials::{parts, stored};
 
 // A list of numbers, at most 300 of them.
-#[derive(Drop)]
+#[derive(Clone, Copy)]
 pub struct List {
     pub count: usize,
     pub of: [u64; 300],
 }
 
 // A number that is being read: its value, whether a digit was met, and the number before two dots.
-#[derive(Drop)]
+#[derive(Clone, Copy)]
 struct Scan {
     value: u64,
     some: bool,

@@ -1,20 +1,22 @@
 // Serials, first and second, and lists of them taken as rosters: where a serial stands, the faults of a list, and orders of its places. The
 // functions stand in `lookups`, `rosters` and `orders`.
+#![tactic(auto)]
+
 use sets::Place;
 
 // A controller's serial: document 01's 32-bit number, never 0 on a roster. It is no place, and a place is no serial.
-#[derive(Drop)]
+#[derive(Clone, Copy)]
 pub struct Serial(pub u32);
 
 // Whether a list of serials can be a roster, or which refusal it meets.
-#[derive(Drop)]
+#[derive(Clone, Copy)]
 pub enum Listed {
     Sound,
     Refused(u8),
 }
 
 // Where a serial is found on a roster, as the first or as the second serial of a place.
-#[derive(Drop)]
+#[derive(Clone, Copy)]
 pub enum Finding {
     First(Place),
     Second(Place),

@@ -1,4 +1,6 @@
 // What a recovery lays into lent buffers: two histories, a returned record; and the check of a history that is lent.
+#![tactic(auto)]
+
 ghost use Rattle.std.specs.Prelude.{◌≡◌, ◌<◌};
 ghost use Rattle.calls.specs.Promises.{shown, checked, written_of};
 

@@ -1,4 +1,6 @@
 // Showing two histories that fit and differ on a place, by the parts of a recovery: no copy of the whole is needed.
+#![tactic(auto)]
+
 ghost use Rattle.std.specs.Prelude.{◌≡◌, ◌*◌, ◌<◌};
 ghost use Rattle.sets.specs.Sets as sets;
 ghost use Rattle.sets.specs.PlaceSets.{has, kept};

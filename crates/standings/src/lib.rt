@@ -1,5 +1,7 @@
 // How the places of a roster stand, by the parts of a recovery: their rows and kinds, and who may still have heard others. A count above 128
 // counts as 128.
+#![tactic(auto)]
+
 ghost use Rattle.std.specs.Prelude.{◌≡◌, not, ◌&&◌, ◌≤◌};
 ghost use Rattle.sets.specs.Sets as sets;
 ghost use Rattle.sets.specs.PlaceSets.{has};

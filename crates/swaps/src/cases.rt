@@ -6,7 +6,7 @@ use trials::tallies::Tally;
 use trials::{parts, say, stored, tallies};
 
 // A list of givings: a number in base 15, the first giving lowest; a digit is 5 times the place and one of the five serials.
-#[derive(Drop)]
+#[derive(Clone, Copy)]
 pub struct Case {
     pub n: usize,
     pub list: u32,

@@ -1,4 +1,6 @@
 // The second reckoning of board swaps, over small numbers: a group of two places, whose first serials are 1 and 2.
+#![tactic(auto)]
+
 ghost use Rattle.std.specs.Prelude.{◌≤◌};
 
 pub mod cases;
@@ -6,7 +8,7 @@ pub mod cases;
 use trials::outcomes;
 
 // At most three serials; those past their number are not looked at.
-#[derive(Drop)]
+#[derive(Clone, Copy)]
 pub struct Few {
     pub n: usize,
     pub a: u32,
@@ -15,7 +17,7 @@ pub struct Few {
 }
 
 // The second serials of the two places, 0 for none.
-#[derive(Drop)]
+#[derive(Clone, Copy)]
 pub struct Boards {
     pub of_0: u32,
     pub of_1: u32,

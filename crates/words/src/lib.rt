@@ -1,4 +1,6 @@
 // What the libraries for C have in common: the nine words of a recovery, where a written record ends, and kinds and tests as numbers.
+#![tactic(auto)]
+
 ghost use Rattle.std.specs.Prelude.{◌≡◌, get_or};
 ghost use Rattle.layouts.specs.Layout.{kind_byte};
 ghost use Rattle.boundary.specs.Words.{yes_code, end_of, set_at, set_words};

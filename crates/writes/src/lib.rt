@@ -1,5 +1,7 @@
 // Writing stored records: a record laid into a lent buffer from a position on. Each section writer lays its bytes into the front of the part
 // that is lent to it.
+#![tactic(auto)]
+
 ghost use Rattle.std.specs.Prelude.{◌≡◌, true, cond, [], ◌∷◌, ◌+◌, ◌*◌, ◌≤◌, ◌<◌, length};
 ghost use Rattle.sets.specs.Sets.{count};
 ghost use Rattle.sets.specs.PlaceSets.{has};

@@ -1,0 +1,29 @@
+-- `lookups::find_from` meets its contract. The invariant: looking from i on finds what looking from `from` on finds.
+-- Assumes nothing.
+use mathlib.Core.Path.{◌≡◌, refl, sym, ap, ◌∙◌}
+use Prim.Native.Nat.{◌-◌}
+use native.Mathlib.Omega.{arith}
+use lib.ListN.{length}
+use borrow.Author.Rules.{rules}
+use Rattle.sets.specs.PlaceSets.{found}
+use Rattle.serials.specs.Rosters.{place_from}
+use Rattle.serials.proofs.Rosters.{from_hit, from_miss, from_past, found_here}
+use Rattle.lookups.proofs.find_from.Goals as goal
+
+pub loop-i-init : goal.loop-i-init
+loop-i-init c = refl
+
+pub returns-then-roster-i : goal.returns-then-roster-i
+returns-then-roster-i c =
+    let a = c.args in
+    found_here _ _ _ (c.loop-i.invariant ∙ from_hit a.roster.now c.loop-i.i (omega arith) a.serial.0 c.if-roster-i.true) (omega arith)
+
+pub loop-i-preserved : goal.loop-i-preserved
+loop-i-preserved c =
+    let a = c.args in
+    c.loop-i.invariant ∙ from_miss a.roster.now c.loop-i.i (omega arith) a.serial.0 c.if-roster-i.false
+
+pub returns : goal.returns
+returns c =
+    let a = c.args in
+    c.find.ensures ∙ ap (found (length a.roster.now)) (sym (c.loop-i.invariant ∙ from_past a.roster.now c.loop-i.i a.serial.0 (omega arith)))

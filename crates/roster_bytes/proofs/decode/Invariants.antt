@@ -1,0 +1,16 @@
+-- `records::decode` meets its contract. The invariant: the first i serials stand at the front of the list. Assumes nothing.
+use mathlib.Core.Path.{◌≡◌, refl}
+use mathlib.Core.List.{◌++◌}
+use Prim.Native.Nat.{◌-◌, ◌≤◌}
+use native.Mathlib.Omega.{arith}
+use lib.ListN.{length, drop, length-set}
+use borrow.Author.Rules.{rules}
+use Rattle.layouts.specs.Records.{serials}
+use Rattle.layouts.proofs.Lists.{laid_more}
+use Rattle.roster_bytes.proofs.decode.Given as goal
+
+abbrev pub invariant-loop-i : goal.invariant-loop-i
+invariant-loop-i l = (l.i ≤ l.n) × (length l.list ≡ length l.initial.list) × (l.list ≡ serials l.i (drop l.at l.bytes) ++ drop l.i l.initial.list)
+
+abbrev pub decreases-loop-i : goal.decreases-loop-i
+decreases-loop-i l = l.n - l.i

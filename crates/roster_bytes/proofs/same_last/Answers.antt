@@ -1,0 +1,23 @@
+-- `records::same_last` meets its contract. The invariant: `same` says whether those before i are alike. Assumes nothing.
+use mathlib.Core.Path.{◌≡◌, refl, sym, ap, ◌∙◌}
+use mathlib.Core.Bool.{Bool, ◌&&◌, and-true}
+use Prim.Native.Nat.{◌-◌, ◌≤◌}
+use native.Mathlib.Omega.{arith}
+use lib.ListN.{length}
+use borrow.Author.Rules.{rules}
+use Rattle.layouts.specs.Parts.{alike_from}
+use Rattle.layouts.proofs.Lists.{alike_next, alike_done}
+use Rattle.roster_bytes.proofs.same_last.Goals as goal
+
+pub loop-i-init : goal.loop-i-init
+loop-i-init c = (omega arith, refl)
+
+pub loop-i-preserved : goal.loop-i-preserved
+loop-i-preserved c =
+    let a = c.args in
+    (omega arith, rw c.also-same.ensures (alike_next a.bytes.now a.at a.list.now c.loop-i.i (omega arith) _ c.loop-i.same _ c.loop-i.invariant.1 c.serial_at-x.ensures))
+
+pub returns : goal.returns
+returns c =
+    let a = c.args in
+    sym (c.loop-i.invariant.1 ∙ ap (λ (t : Bool). c.loop-i.same && t) (alike_done a.bytes.now a.at a.list.now c.loop-i.i (omega arith)) ∙ and-true c.loop-i.same)

@@ -1,0 +1,6 @@
+-- `records::same_one` meets its contract. Assumes nothing.
+use borrow.Author.Rules.{rules}
+use Rattle.roster_bytes.proofs.same_one.Goals as goal
+
+pub returns : goal.returns
+returns c = rw c.serial_at-x.ensures

@@ -1,0 +1,14 @@
+-- `row_tables::row_of` meets its contract. Assumes nothing.
+use mathlib.Core.Path.{refl, sym, ◌∙◌}
+use Rattle.sets.proofs.Words.{has_none}
+use Rattle.rows.specs.Rows.{rows_of}
+use Rattle.rows.proofs.Laws.{row_at_lem, rows_past}
+use borrow.Author.Rules.{rules}
+use Rattle.row_tables.proofs.row_of.Goals as goal
+
+pub returns-then-p-ge128 : goal.returns-then-p-ge128
+returns-then-p-ge128 c = row_at_lem _ _ _ (search rules) (has_none _ refl refl ∙ sym (rows_past _ _ (search rules) c.if-p-ge128.true))
+
+pub returns : goal.returns
+unfolding rows_of
+returns c = row_at_lem _ _ _ (search rules) c.read.ensures

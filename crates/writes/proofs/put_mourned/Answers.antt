@@ -1,0 +1,17 @@
+-- `writes::put_mourned` meets its contract. Assumes nothing.
+use mathlib.Core.Path.{◌∙◌}
+use native.Mathlib.Omega.{arith}
+use lib.ListN.{length-set}
+use borrow.Author.Rules.{rules}
+use Rattle.writes.proofs.Laying.{section_long, section_laid}
+use Rattle.writes.proofs.put_mourned.Goals as goal
+
+pub slice_bounds-put_chosen-count : goal.slice_bounds-put_chosen-count
+slice_bounds-put_chosen-count c = simp length-set (omega arith)
+
+pub put_chosen-requires : goal.put_chosen-requires
+put_chosen-requires c =
+    rw (section_long c.args.out.now c.args.m (omega arith)) (omega (arith, c.requires.m_value))
+
+pub returns : goal.returns
+returns c = section_laid c.args.out.now _ (omega arith) _ _ c.put_chosen.ensures

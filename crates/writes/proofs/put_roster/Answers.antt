@@ -1,0 +1,18 @@
+-- `writes::put_roster` meets its contract. Assumes nothing.
+use mathlib.Core.Path.{◌∙◌}
+use native.Mathlib.Omega.{arith}
+use lib.ListN.{length, length-set}
+use borrow.Author.Rules.{rules}
+use Rattle.writes.proofs.Laying.{section_long, section_laid}
+use Rattle.writes.proofs.put_roster.Goals as goal
+
+pub slice_bounds-put_serials-count : goal.slice_bounds-put_serials-count
+slice_bounds-put_serials-count c = simp length-set (omega arith)
+
+pub put_serials-requires : goal.put_serials-requires
+put_serials-requires c =
+    let a = c.args in
+    rw (section_long a.out.now (length a.roster.now) (omega arith)) (omega arith)
+
+pub returns : goal.returns
+returns c = section_laid c.args.out.now _ (omega arith) _ _ c.put_serials.ensures
