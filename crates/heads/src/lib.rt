@@ -144,7 +144,7 @@ pub fn read_desk<'a>(
 ) -> Sight
     ensures value { result ≡ (shown_to_desk (counts_as firsts.now seconds.now) bytes.now roster.old.now).answer }
     ensures roster_after { roster.new.now ≡ (shown_to_desk (counts_as firsts.now seconds.now) bytes.now roster.old.now).roster }
-    ensures ptr_after { roster.new.ptr ≡ lies_of result bytes.entry.ref_ptr roster.old.ptr }
+    ensures ptr_after { roster.new.ref_ptr ≡ lies_of result bytes.entry.ref_ptr roster.old.ref_ptr }
 {
     let mut list = [0u32; 128];
     match read_head(bytes, 0, &mut list, firsts, seconds) {
