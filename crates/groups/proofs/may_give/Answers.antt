@@ -13,12 +13,12 @@ returns-then-serial-eq0 c = give_zero _ _ _ _ _ (omega (arith, c.size-n.ensures.
 
 pub returns-then-is_known : goal.returns-then-is_known
 returns-then-is_known c =
-    give_known _ _ _ _ _ (omega (arith, c.size-n.ensures.value)) c.if-serial-eq0.false (sym c.is_Known.ensures ∙ c.if-is_known.true)
+    give_known _ _ _ _ _ (omega (arith, c.size-n.ensures.value)) c.if-serial-eq0.false (sym c.is_known.ensures ∙ c.if-is_known.true)
 
 pub returns-then-has_second : goal.returns-then-has_second
 returns-then-has_second c =
-    give_has _ _ _ _ _ (omega (arith, c.size-n.ensures.value)) c.if-serial-eq0.false (sym c.is_Known.ensures ∙ c.if-is_known.false) (sym c.has_second.ensures ∙ c.if-has_second.true)
+    give_has _ _ _ _ _ (omega (arith, c.size-n.ensures.value)) c.if-serial-eq0.false (sym c.is_known.ensures ∙ c.if-is_known.false) (sym c.has_second.ensures ∙ c.if-has_second.true)
 
 pub returns : goal.returns
 returns c =
-    give_new _ _ _ _ _ (omega (arith, c.size-n.ensures.value)) c.if-serial-eq0.false (sym c.is_Known.ensures ∙ c.if-is_known.false) (sym c.has_second.ensures ∙ c.if-has_second.false)
+    give_new _ _ _ _ _ (omega (arith, c.size-n.ensures.value)) c.if-serial-eq0.false (sym c.is_known.ensures ∙ c.if-is_known.false) (sym c.has_second.ensures ∙ c.if-has_second.false)
