@@ -5,12 +5,12 @@ use Rattle.lines.proofs.put_record.Goals as goal
 
 pub returns-in-Taken : goal.returns-in-Taken
 unfolding record_line offer_words ascii
-returns-in-Taken c = record { value = (rw c.in-Taken.is (c.put_numbered.ensures.value, c.put_numbered.ensures.out_after)).0; out_after = (rw c.in-Taken.is (c.put_numbered.ensures.value, c.put_numbered.ensures.out_after)).1 }
+returns-in-Taken c = record { value = rw c.in-Taken.is c.put_numbered.ensures.value; out_after = rw c.in-Taken.is c.put_numbered.ensures.out_after }
 
 pub returns-in-Repeated : goal.returns-in-Repeated
 unfolding record_line offer_words ascii
-returns-in-Repeated c = record { value = (rw c.in-Repeated.is (c.put_numbered-in-Repeated.ensures.value, c.put_numbered-in-Repeated.ensures.out_after)).0; out_after = (rw c.in-Repeated.is (c.put_numbered-in-Repeated.ensures.value, c.put_numbered-in-Repeated.ensures.out_after)).1 }
+returns-in-Repeated c = record { value = rw c.in-Repeated.is c.put_numbered-in-Repeated.ensures.value; out_after = rw c.in-Repeated.is c.put_numbered-in-Repeated.ensures.out_after }
 
 pub returns-in-Refused : goal.returns-in-Refused
 unfolding record_line offer_words ascii
-returns-in-Refused c = record { value = (rw c.in-Refused.is (c.put_refused.ensures.value, c.put_refused.ensures.out_after)).0; out_after = (rw c.in-Refused.is (c.put_refused.ensures.value, c.put_refused.ensures.out_after)).1 }
+returns-in-Refused c = record { value = rw c.in-Refused.is c.put_refused.ensures.value; out_after = rw c.in-Refused.is c.put_refused.ensures.out_after }

@@ -11,7 +11,7 @@ use Rattle.answers.proofs.Laying.{laid_length, laid_none, laid_on, shifted, eigh
 use Rattle.lists.proofs.lay_word.Given as goal
 
 abbrev pub invariant-loop-i : goal.invariant-loop-i
-invariant-loop-i l = (l.i ≤ l.n) × (length l.out ≡ length l.initial.out) × (l.l ≡ l.last / 2 ^ l.i) × (l.o ≡ «open» / 2 ^ l.i) × (l.out ≡ laid l.i (byte_by (bit l.last) (bit «open»)) l.initial.out)
+invariant-loop-i l = (l.i ≤ l.n) × (length l.out ≡ length l.initial.out) × (l.l ≡ l.last / 2 ^ l.i) × (l.o ≡ l.«open» / 2 ^ l.i) × (l.out ≡ laid l.i (byte_by (bit l.last) (bit l.«open»)) l.initial.out)
 
 abbrev pub decreases-loop-i : goal.decreases-loop-i
 decreases-loop-i l = l.n - l.i
