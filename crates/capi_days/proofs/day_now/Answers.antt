@@ -1,0 +1,8 @@
+-- `capi_days::day_now` meets its contract. Assumes nothing.
+use borrow.Author.Rules.{rules}
+use Rattle.boundary.specs.Days.{day_now}
+use Rattle.capi_days.proofs.day_now.Goals as goal
+
+pub returns : goal.returns
+unfolding day_now
+returns c = rw c.write_stopped.ensures
