@@ -18,9 +18,9 @@ returns-then-off_roster c =
 pub returns-then-fits : goal.returns-then-fits
 unfolding size_of accepted_of
 returns-then-fits c =
-    sym (checked_on _ refl _ (omega (arith, c.size-n.ensures.value)) (sym c.off_roster.ensures ∙ c.if-off_roster.false) _ (sym c.fits2.ensures ∙ c.if-fits.true))
+    sym (checked_on _ refl _ (omega (arith, c.size-n.ensures.value)) (sym c.off_roster.ensures ∙ c.if-off_roster.false) _ (sym c.fits.ensures ∙ c.if-fits.true))
 
 pub returns : goal.returns
 unfolding size_of accepted_of
 returns c =
-    sym (checked_on _ refl _ (omega (arith, c.size-n.ensures.value)) (sym c.off_roster.ensures ∙ c.if-off_roster.false) _ (sym c.fits2.ensures ∙ c.if-fits.false))
+    sym (checked_on _ refl _ (omega (arith, c.size-n.ensures.value)) (sym c.off_roster.ensures ∙ c.if-off_roster.false) _ (sym c.fits.ensures ∙ c.if-fits.false))

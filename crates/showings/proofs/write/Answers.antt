@@ -29,4 +29,8 @@ slice_bounds-write-end c =
 
 pub returns : goal.returns
 unfolding size_of
-returns c = record { value = (write_back _ _ _ _ (omega (arith, c.size-n.ensures.value)) (sym c.contains.ensures ∙ c.if-not-contains.false) _ c.size-n.ensures.value (slice-aggregate-write c) _ c.recorded-row.ensures _ c.kind_of-kind.ensures _ _ (c.write.ensures.value, c.write.ensures.out_after)).0; out_after = (write_back _ _ _ _ (omega (arith, c.size-n.ensures.value)) (sym c.contains.ensures ∙ c.if-not-contains.false) _ c.size-n.ensures.value (slice-aggregate-write c) _ c.recorded-row.ensures _ c.kind_of-kind.ensures _ _ (c.write.ensures.value, c.write.ensures.out_after)).1 }
+returns c =
+    let l : length c.args.r.serials ≡ 128 = search rules in
+    let long = sym (length-take-le _ _ (omega (arith, c.size-n.ensures.upper_bound))) in
+    let w = write_back _ _ _ _ (omega (arith, c.size-n.ensures.value)) (sym c.contains.ensures ∙ c.if-not-contains.false) _ c.size-n.ensures.value long _ c.recorded-row.ensures _ c.kind_of-kind.ensures _ _ (c.write.ensures.value, c.write.ensures.out_after) in
+    record { value = w.0; out_after = w.1 }
