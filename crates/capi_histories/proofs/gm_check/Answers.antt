@@ -17,9 +17,9 @@ returns-then-off_roster c = λ serials seconds.
 pub returns-then-fits : goal.returns-then-fits
 unfolding checked_code
 returns-then-fits c = λ serials seconds.
-    check_on _ _ (c.read_head-h.ensures.count_value, (c.read_head-h.ensures.returned_value, (c.read_head-h.ensures.full_value, (c.read_head-h.ensures.mourned_value, c.read_head-h.ensures.earlier_value)))) _ _ _ _ (omega (arith, c.size-n.ensures.value)) (sym c.off_roster.ensures ∙ c.if-off_roster.false) _ (sym c.fits2.ensures ∙ c.if-fits.true)
+    check_on _ _ (c.read_head-h.ensures.count_value, (c.read_head-h.ensures.returned_value, (c.read_head-h.ensures.full_value, (c.read_head-h.ensures.mourned_value, c.read_head-h.ensures.earlier_value)))) _ _ _ _ (omega (arith, c.size-n.ensures.value)) (sym c.off_roster.ensures ∙ c.if-off_roster.false) _ (sym c.fits.ensures ∙ c.if-fits.true)
 
 pub returns : goal.returns
 unfolding checked_code
 returns c = λ serials seconds.
-    check_on _ _ (c.read_head-h.ensures.count_value, (c.read_head-h.ensures.returned_value, (c.read_head-h.ensures.full_value, (c.read_head-h.ensures.mourned_value, c.read_head-h.ensures.earlier_value)))) _ _ _ _ (omega (arith, c.size-n.ensures.value)) (sym c.off_roster.ensures ∙ c.if-off_roster.false) _ (sym c.fits2.ensures ∙ c.if-fits.false)
+    check_on _ _ (c.read_head-h.ensures.count_value, (c.read_head-h.ensures.returned_value, (c.read_head-h.ensures.full_value, (c.read_head-h.ensures.mourned_value, c.read_head-h.ensures.earlier_value)))) _ _ _ _ (omega (arith, c.size-n.ensures.value)) (sym c.off_roster.ensures ∙ c.if-off_roster.false) _ (sym c.fits.ensures ∙ c.if-fits.false)

@@ -6,4 +6,4 @@ use Rattle.capi_histories.proofs.gm_write.Goals as goal
 
 pub returns : goal.returns
 returns c =
-    record { by_index = λ seconds. c.end_of_lem.ensures ∙ ap end_of (c.write_back-answer.ensures.by_index seconds); by_index_2 = c.write_back-answer.ensures.by_index_2 }
+    record { by_index = λ seconds. c.end_of.ensures ∙ ap end_of (c.write_back-answer.ensures.by_index seconds); by_index_2 = c.write_back-answer.ensures.by_index_2 }

@@ -18,4 +18,7 @@ slice_bounds-write-end c =
     sym (length-take-le _ _ (omega (arith, c.size-n.ensures.upper_bound, c.requires)))
 
 pub returns : goal.returns
-returns c = record { by_index = (back_written _ _ (c.read_head-h.ensures.count_value, (c.read_head-h.ensures.returned_value, (c.read_head-h.ensures.full_value, (c.read_head-h.ensures.mourned_value, c.read_head-h.ensures.earlier_value)))) _ _ _ _ _ (omega (arith, c.size-n.ensures.value)) (sym c.contains.ensures ∙ c.if-not-contains.false) _ c.size-n.ensures.value (slice-aggregate-write c) _ c.recorded-row.ensures _ c.kind_of-kind.ensures _ _ (c.write.ensures.value, c.write.ensures.out_after)).0; by_index_2 = (back_written _ _ (c.read_head-h.ensures.count_value, (c.read_head-h.ensures.returned_value, (c.read_head-h.ensures.full_value, (c.read_head-h.ensures.mourned_value, c.read_head-h.ensures.earlier_value)))) _ _ _ _ _ (omega (arith, c.size-n.ensures.value)) (sym c.contains.ensures ∙ c.if-not-contains.false) _ c.size-n.ensures.value (slice-aggregate-write c) _ c.recorded-row.ensures _ c.kind_of-kind.ensures _ _ (c.write.ensures.value, c.write.ensures.out_after)).1 }
+returns c =
+    let long = sym (length-take-le _ _ (omega (arith, c.size-n.ensures.upper_bound, c.requires))) in
+    let w = back_written _ _ (c.read_head-h.ensures.count_value, (c.read_head-h.ensures.returned_value, (c.read_head-h.ensures.full_value, (c.read_head-h.ensures.mourned_value, c.read_head-h.ensures.earlier_value)))) _ _ _ _ _ (omega (arith, c.size-n.ensures.value)) (sym c.contains.ensures ∙ c.if-not-contains.false) _ c.size-n.ensures.value long _ c.recorded-row.ensures _ c.kind_of-kind.ensures _ _ (c.write.ensures.value, c.write.ensures.out_after) in
+    record { by_index = w.0; by_index_2 = w.1 }
