@@ -20,7 +20,7 @@ def items(text):
         m = re.search(r'(?m)^(pub )?(extern "C" )?fn (\w+)', chunk)
         if not m:
             continue
-        comment = " ".join(l[3:] for l in chunk.split("\n") if l.startswith("// "))
+        comment = " ".join(l[3:] for l in chunk[:m.start()].split("\n") if l.startswith("// "))
         rest = chunk[m.start():]
         head, _, body = rest.partition("\n{")
         signature = re.split(r"\n    (?:requires|ensures|decreases)", head)[0]
@@ -29,13 +29,15 @@ def items(text):
 
 def cited(text, head):
     """The definitions that an ensures names, each with its file."""
-    ensures = " ".join(re.findall(r"ensures[^⌜]*⌜(.*?)⌝", head, re.S))
+    ensures = " ".join(re.findall(r"ensures ?\w* \{(.*?)\}(?=\n|$)", head, re.S))
     found = []
-    for crate, module, names in re.findall(r"ghost use Rattle·(\w+?)(?:·specs\.specs|\.specs)\.(\w+)\.\{(.*?)\};", text):
-        for name in (n.strip().split(" as ")[-1] for n in names.split(",")):
+    for crate, module, names in re.findall(r"ghost use Rattle\.(\w+)\.specs\.(\w+)\.\{(.*?)\};", text):
+        for name in (n.strip().split(" as ")[-1] for n in names.split(",") if crate != "std"):
             if re.search(r"(?<![\w-])" + re.escape(name) + r"(?![\w-])", ensures):
                 found.append(f"`{crate}/specs/{module}.antt`: `{name}`")
-    for crate, module, alias in re.findall(r"ghost use Rattle·(\w+?)(?:·specs\.specs|\.specs)\.(\w+) as (\w+);", text):
+    for crate, module, alias in re.findall(r"ghost use Rattle\.(\w+)\.specs\.(\w+) as (\w+);", text):
+        if crate == "std":
+            continue
         for name in sorted(set(re.findall(r"(?<![\w.])" + alias + r"\.([\w-]+)", ensures))):
             found.append(f"`{crate}/specs/{module}.antt`: `{name}`")
     merged = {}
@@ -76,7 +78,7 @@ def callers(name, texts, public):
 def page():
     out = []
     for line in read(ROOT + "/crates.txt").split("\n"):
-        crate = line.split(":")[0].strip()
+        crate = line.split(":")[0].split(" ")[0].strip()
         if ":" not in line or line.startswith("#") or crate in SUPPORT or os.path.exists(f"{ROOT}/crates/{crate}/src/main.rt"):
             continue
         files = sorted(glob.glob(f"{ROOT}/crates/{crate}/src/*.rt"))

@@ -1,7 +1,7 @@
 /*
  * Goatmonth: which controllers of a group stopped last, told from the records that the returned ones stored.
  *
- * The functions are proved code in six static libraries (`rt staticlib NAME` writes target/staticlib/libNAME.a): capi opens a recovery and
+ * The functions are proved code in six static libraries (`rt lib` in crates/NAME writes out/libNAME.a there): capi opens a recovery and
  * takes records, capi_answers says how its places stand, capi_histories shows, checks and writes, capi_records has stored records by
  * themselves, capi_days a day, capi_fetches what a crew has to fetch. Link those whose functions you call.
  *

@@ -20,7 +20,7 @@ mod timing;
 const USAGE: &str = "commands:
   selftest                     the plain implementation by itself
   differential [SEED [CALLS]]  the library and the plain implementation, call by call
-  streams [SEED [COUNT]]       target/bin/recover, or the program that GM_PROGRAM names, and the plain program
+  streams [SEED [COUNT]]       crates/recover/out/recover, or the program that GM_PROGRAM names, and the plain program
   bench                        times of the library's calls beside plain Rust's
   listing                      instructions of one list beside askings of every place, 128 members; runs itself under valgrind
   bench-program                times of the program beside the plain program
@@ -44,7 +44,7 @@ fn main() {
         listing::ONCE => listing::once(number(1, 0) as usize, number(2, 0) as usize, number(3, 0) as usize),
         #[cfg(not(proved))]
         "differential" | "bench" | "listing" => {
-            eprintln!("built without the library: run rt staticlib for capi and each crate that begins with capi_,");
+            eprintln!("built without the library: run rt lib in the folders of capi and of each crate that begins with capi_,");
             eprintln!("or set GM_LIBRARY, and build again");
             std::process::exit(2);
         }

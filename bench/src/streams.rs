@@ -13,7 +13,7 @@ use std::process::{Command, Stdio, exit};
 
 // The program that GM_PROGRAM names, or the one that `rt check recover` writes.
 fn program() -> PathBuf {
-    let otherwise = Path::new(env!("CARGO_MANIFEST_DIR")).join("../target/bin/recover");
+    let otherwise = Path::new(env!("CARGO_MANIFEST_DIR")).join("../crates/recover/out/recover");
     let path = std::env::var_os("GM_PROGRAM").map_or(otherwise, PathBuf::from);
     if !path.is_file() {
         eprintln!("no program at {}: run rt check recover, or set GM_PROGRAM", path.display());

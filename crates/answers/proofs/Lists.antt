@@ -1,5 +1,5 @@
 -- Listing: what bytes laid into the front of a buffer leave, both cases, and the byte of an answer by two sets. Assumes nothing.
-use mathlib.Core.Path.{◌≡◌, refl, sym, ap, ap₂, ◌∙◌}
+use mathlib.Core.Path.{◌≡◌, refl, sym, ap, ◌∙◌}
 use mathlib.Core.Bool.{Bool, true, false, not, cond, ◌&&◌}
 use mathlib.Core.List.{List}
 use Prim.Native.Nat.{ℕ, zero, suc, ◌+◌, ◌*◌, ◌<◌, ◌≤◌}
@@ -12,7 +12,7 @@ use Rattle.sets.specs.Sets.{below, difference, any}
 use Rattle.sets.specs.PlaceSets.{has}
 use Rattle.sets.specs.declared.PlaceSet.{PlaceSet}
 use Rattle.histories.specs.Histories.{Row, Accepted}
-use Rattle.histories.specs.Rule.{Answer, answer_with, open_answer}
+use Rattle.histories.specs.Rule.{answer_with, open_answer}
 use Rattle.histories.specs.Kept.{blockers_by, answer_by, open_by}
 use Rattle.answers.specs.declared.Listing.{Listing}
 use Rattle.answers.specs.declared.Listing.TheVariants as S

@@ -31,7 +31,6 @@ use Rattle.answers.specs.Groups.{found_among, is_found, giving}
 use Rattle.calls.proofs.Calls.{asked_is}
 use Rattle.calls.specs.declared.Recovery.{Recovery}
 use Rattle.calls.specs.declared.Opening.TheVariants as G
-use Rattle.calls.specs.declared.Opened.{Opened}
 use Rattle.calls.specs.declared.Asked.{Asked}
 use Rattle.calls.specs.declared.Asked.TheVariants as A
 use Rattle.calls.specs.Promises.{size_of, accepted_of, fresh, unopened, opened_as, opened, keeping_full, keeping_row, keeping, asked_as, asked, unmourned_of, unmourned_absent_of, unmourned_count_of, with_second, gave_as, given}

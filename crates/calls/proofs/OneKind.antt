@@ -13,7 +13,6 @@ use Rattle.histories.proofs.Earlier.{same_answer, same_accepts}
 use Rattle.serials.specs.Seconds.{counts_as}
 use Rattle.layouts.specs.Layout.{Stored, lone}
 use Rattle.answers.specs.declared.Reply.TheVariants as O
-use Rattle.calls.specs.declared.Recovery.{Recovery}
 use Rattle.calls.specs.declared.Offered.{Offered}
 use Rattle.calls.specs.Promises.{seconds_of, accepted_of, saying, keeping, offered, asked_as, asked}
 use Rattle.calls.specs.Demand.{Free, Call, OfGroup}

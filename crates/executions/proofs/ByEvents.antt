@@ -51,7 +51,8 @@ use Rattle.executions.specs.declared.Opening.TheVariants as G
 use Rattle.executions.specs.Executions.{Execution}
 use Rattle.executions.specs.Promises.{size_of, execution_of, starting, unbegun, begun_as, begun, day_after, played, record_of, written_of}
 use Rattle.executions.specs.Events.{Stopped, Heard, AllAllowed, AllStopped}
-use Rattle.executions.specs.ByEvents.{Known, Free, Opens, unknown, otherwise, AsPlayed, played_of, record_bytes, records_of, True}
+use Rattle.executions.specs.Finished.{Known, Free, Opens, unknown, otherwise, record_bytes, records_of}
+use Rattle.executions.specs.ByEvents.{AsPlayed, played_of, TrueOf}
 use Rattle.executions.proofs.Executed.{stops, allowed_free, after_stop, happening_stop, orderly_history}
 use Rattle.executions.proofs.Days.{after_execution}
 use Rattle.executions.proofs.Events.{Tells, tells_day, as_played}
@@ -160,7 +161,7 @@ module _ {k : Kind} {s : List ℕ} {d : Day} (sound : IsRoster s) (below : (p : 
       go true e = let w = any_elim (length s) (λ x. rows x i) e in (w.0, w.2)
       go false e = absurd (z (λ p. is_false (rows p i) (λ t. clash t (any_none (length s) (λ x. rows x i) e p (is_history.history.inside p i t).0))))
 
-  answers_true : {r : Recovery} {es : List Event} → Tells k (length s) es (execution_of d) → Good s r → Fits (length s) (accepted_of r) rows → True k (length s) es r
+  answers_true : {r : Recovery} {es : List Event} → Tells k (length s) es (execution_of d) → Good s r → Fits (length s) (accepted_of r) rows → TrueOf k (length s) es r
   unfolding outcome asked_says
   answers_true t good f = record {
     last = λ p e x h. clash ((t.heard x p).1 h) (((last_iff good.fits (step good (ask p))).0 (ap (λ (a : Asked). says (asked_says a)) e)).1 rows f x);
@@ -185,7 +186,7 @@ module _ {k : Kind} {s : List ℕ} {d : Day} (sound : IsRoster s) (below : (p : 
 
   -- the records of any places, in any order
   all_accepted : {es : List Event} → Tells k (length s) es (execution_of d) → (ps : List ℕ) → ((p : ℕ) → Memᴰ p ps → p < length s) → (r : Recovery) → Good s r
-      → Model s rows (λ p. k) r → Accepts r (records_of d ps) × True k (length s) es (left r (offers (records_of d ps)))
+      → Model s rows (λ p. k) r → Accepts r (records_of d ps) × TrueOf k (length s) es (left r (offers (records_of d ps)))
   all_accepted t ps on r good f =
       let w = agreeing_accepted good f (records_of d ps) (records_agree (seconds_of r) ps on) in
       (w.0, answers_true t (good_after good (offers (records_of d ps))) w.1.fits)
@@ -207,7 +208,7 @@ module _ (kind : ℕ) (s : List ℕ) (f : Free kind s) where
   pub any_time : (d : Day) → Kept (kind_of kind) s d → (es : List Event) → Tells (kind_of kind) (length s) es (execution_of d)
       → IsHistory (kind_of kind) (length s) (execution_of d).row
       × ((ps : List ℕ) → ((p : ℕ) → Memᴰ p ps → p < length s)
-      → Accepts (opened s).recovery (records_of d ps) × True (kind_of kind) (length s) es (reached s (offers (records_of d ps))))
+      → Accepts (opened s).recovery (records_of d ps) × TrueOf (kind_of kind) (length s) es (reached s (offers (records_of d ps))))
   any_time d g es t = (
     is_history f.list.sound f.list.serials g,
     λ ps on. all_accepted f.list.sound f.list.serials g t ps on (opened s).recovery (good_opened f.list) (opened_model (execution_of d).row (is_history f.list.sound f.list.serials g)),
@@ -238,7 +239,7 @@ module _ (kind : ℕ) (s : List ℕ) (f : Free kind s) (es : List Event) (h : le
   pub finished : AllStopped (length s) events
       → IsHistory (kind_of kind) (length s) (execution_of over).row
       × ((ps : List ℕ) → ((p : ℕ) → Memᴰ p ps → p < length s)
-      → Accepts (opened s).recovery (records_of over ps) × True (kind_of kind) (length s) events (reached s (offers (records_of over ps))))
+      → Accepts (opened s).recovery (records_of over ps) × TrueOf (kind_of kind) (length s) events (reached s (offers (records_of over ps))))
   finished all = any_time kind s f over over_kept events events_told
 
   -- ---- its records are written

@@ -1,34 +1,14 @@
--- The opening of a day, and the records of one that is over, offered to a recovery: what is said of them in bytes, by the definitions that the contracts of the day and of
--- the recovery cite. Assumes nothing.
-use Rattle.std.specs.Prelude.{◌≡◌, true, ◌⊎◌, ◌↔◌, List, [], ◌∷◌, ◌++◌, map, ℕ, length, take}
+-- What a play of a list of events gives, and what is true of the records of a day that is over, said of what happened in its events alone. Assumes nothing.
+use Rattle.std.specs.Prelude.{◌≡◌, true, ◌⊎◌, ◌↔◌, List, [], ◌∷◌, ◌++◌, ℕ, length, take}
 use Rattle.histories.specs.declared.Kind.{Kind}
-use Rattle.layouts.specs.Layout.{layout}
 use Rattle.calls.specs.declared.Recovery.{Recovery}
 use Rattle.calls.specs.declared.Asked.TheVariants as A
 use Rattle.calls.specs.Promises.{asked}
-use Rattle.calls.specs.Demand as D
-use Rattle.calls.specs.Demand.{Said, refused}
 use Rattle.executions.specs.declared.Day.{Day}
 use Rattle.executions.specs.declared.Event.{Event}
 use Rattle.executions.specs.declared.Played.{Played}
-use Rattle.executions.specs.Promises.{execution_of, record_of, played}
+use Rattle.executions.specs.Promises.{execution_of, played}
 use Rattle.executions.specs.Events.{Stopped, Heard, Meets, AllAllowed}
-
--- ---- opening a day
-
--- a kind byte that is known
-abbrev pub Known : ℕ → Type 0
-Known kind = (kind ≡ 1) ⊎ (kind ≡ 2)
-
--- an opening free of the faults 2 to 5
-pub record Free (kind : ℕ) (roster : List ℕ) : Type 0 where
-  pub known : Known kind
-  pub list : D.Free roster
-
--- what opening a day must say: 2, and then what opening a recovery must
-pub data Opens (kind : ℕ) (s : List ℕ) : Said → Type 0 where
-  unknown : ¬ (Known kind) → Opens kind s (refused 2)
-  otherwise : {w : Said} → Known kind → D.Opens s w → Opens kind s w
 
 -- ---- a list of events
 
@@ -58,15 +38,7 @@ played_of d es = take (played d es).count es
 
 -- ---- its records
 
--- the bytes that the day's writer writes for p
-unfoldable pub record_bytes : Day → ℕ → List ℕ
-record_bytes d p = layout (record_of d p)
-
--- the records of some places, in this order
-unfoldable pub records_of : Day → List ℕ → List (List ℕ)
-records_of d ps = map (record_bytes d) ps
-
 -- what r answers is true of these events: last only where nobody heard it stop in them, not last only where somebody did
-pub record True (k : Kind) (n : ℕ) (es : List Event) (r : Recovery) : Type 0 where
+pub record TrueOf (k : Kind) (n : ℕ) (es : List Event) (r : Recovery) : Type 0 where
   pub last : (p : ℕ) → asked r p ≡ A.Last → (x : ℕ) → ¬ (Heard k n es x p)
   pub not_last : (p : ℕ) → asked r p ≡ A.NotLast → (x : ℕ) × Heard k n es x p

@@ -7,15 +7,15 @@ use Prim.Native.Nat.{ℕ, ◌<◌}
 use lib.Dec.{eqb}
 use borrow.Author.Tests.{eqb-true, ne_eqb}
 use Rattle.sets.specs.Sets.{union, any, all, subset}
-use Rattle.sets.proofs.Booleans.{split, clash, is_false, both_ways, or_cases, and_intro, and_left, and_right, or_left, or_right, not_true, not_intro, implies_elim, implies_intro, eqb_self}
+use Rattle.sets.proofs.Booleans.{clash, is_false, both_ways, or_cases, and_intro, and_left, and_right, or_left, or_right, not_true, not_intro, implies_elim, implies_intro, eqb_self}
 use Rattle.sets.proofs.Tests.{any_elim, any_intro, all_elim, all_intro, all_fails, subset_elim, subset_intro, subset_fails}
 use Rattle.histories.specs.declared.Kind.{Kind}
-use Rattle.histories.specs.declared.Kind.TheVariants.{Full, Short}
+use Rattle.histories.specs.declared.Kind.TheVariants.{Full}
 use Rattle.histories.specs.Histories.{Row, History, Before, heard, through, Accepted, lay, Fits}
-use Rattle.histories.specs.Refusals.{Circle, Lacking, Contradicts}
-use Rattle.histories.specs.Rule.{recorded, mourned, reach, before, is_full, full_back, agrees, accepts}
-use Rattle.histories.proofs.Closure.{before_trans, before_mono, reach_sound, reach_complete}
-use Rattle.histories.proofs.Exact.{recorded_returned, recorded_fits_if, recorded_sub, recorded_fits, full_kind, full_back_elim, full_back_intro, before_in, before_out}
+use Rattle.histories.specs.Refusals.{Contradicts}
+use Rattle.histories.specs.Rule.{recorded, mourned, before, is_full, full_back, agrees, accepts}
+use Rattle.histories.proofs.Closure.{before_trans, before_mono, reach_complete}
+use Rattle.histories.proofs.Exact.{recorded_returned, recorded_fits_if, recorded_fits, full_kind, full_back_elim, full_back_intro, before_out}
 
 -- ---- the recorded rows with the new record
 

@@ -10,12 +10,12 @@ use Rattle.sets.proofs.Booleans.{clash, is_false, both_ways, or_cases, and_intro
 use Rattle.sets.proofs.Tests.{all_elim, all_intro, subset_elim, subset_intro}
 use Rattle.histories.specs.declared.Kind.{Kind}
 use Rattle.histories.specs.declared.Kind.TheVariants.{Full, Short}
-use Rattle.histories.specs.Histories.{Row, History, Before, heard, through, Accepted, lay, Fits, Last, LastInAll, LastInNone, Disagree}
+use Rattle.histories.specs.Histories.{Row, History, Before, heard, through, Accepted, lay, Fits, LastInAll, LastInNone, Disagree}
 use Rattle.histories.specs.Earlier as earlier
 use Rattle.histories.specs.Earlier.{OneKind}
 use Rattle.histories.specs.Rule.{recorded, mourned, before, is_full, full_back, before_full, blockers, Answer, answer_with, answer, is_last, not_last, is_open, grown, second, agrees, accepts}
 use Rattle.histories.proofs.Closure.{before_closed}
-use Rattle.histories.proofs.Exact.{recorded_returned, recorded_fits_if, recorded_fits, mourned_elim, mourned_intro, full_back_elim, full_back_intro, before_out, before_full_in, before_full_out, Blocks, FromI, not_from_i, grown_cases, grown_old, grown_new, open_blocks, Exact, exact}
+use Rattle.histories.proofs.Exact.{recorded_returned, recorded_fits_if, recorded_fits, mourned_elim, mourned_intro, full_back_elim, full_back_intro, before_out, before_full_in, before_full_out, Blocks, FromI, not_from_i, grown_cases, grown_old, grown_new, open_blocks, exact}
 use Rattle.histories.proofs.Accepts.{Laid, laid_cases, laid_new, laid_old, accepts_iff}
 
 -- ---- the meaning

@@ -1,18 +1,18 @@
 -- With the two sets kept, the rule of `Kept` is the rule; and how they grow with a record. Assumes nothing.
-use mathlib.Core.Path.{◌≡◌, refl, sym, ap, ap₂, ◌∙◌, fun_ext}
+use mathlib.Core.Path.{◌≡◌, refl, sym, ap, ◌∙◌, fun_ext}
 use mathlib.Core.Bool.{Bool, true, false, not, cond, ◌&&◌, ◌||◌, or-false}
 use mathlib.Core.Logic.{◌⊎◌, inl, inr}
-use Prim.Native.Nat.{ℕ, ◌<◌}
+use Prim.Native.Nat.{ℕ}
 use lib.Dec.{eqb}
 use borrow.Author.Tests.{eqb-true}
 use Rattle.sets.specs.Sets.{below, only, union, intersection, with, difference, any}
 use Rattle.sets.proofs.Booleans.{clash, is_false, both_ways, and_intro, or_cases, or_left, or_right}
 use Rattle.histories.specs.declared.Kind.{Kind}
-use Rattle.histories.specs.declared.Kind.TheVariants.{Full, Short}
+use Rattle.histories.specs.declared.Kind.TheVariants.{Full}
 use Rattle.histories.specs.Histories.{Row, History, Before, heard, through, Accepted, lay, Fits}
-use Rattle.histories.specs.Rule.{Answer, recorded, mourned, before, is_full, full_back, before_full, blockers, answer_with, answer, none_open, settled}
+use Rattle.histories.specs.Rule.{recorded, mourned, before, is_full, full_back, before_full, blockers, answer_with, answer, none_open, settled}
 use Rattle.histories.specs.Kept.{ruled_out_by, blockers_by, answer_by, settled_by}
-use Rattle.histories.proofs.Exact.{recorded_returned, recorded_fits, mourned_intro, full_kind, full_back_elim, full_back_intro, before_in, before_out, before_full_in, before_full_out}
+use Rattle.histories.proofs.Exact.{recorded_returned, recorded_fits, mourned_intro, full_kind, full_back_elim, full_back_intro, before_out, before_full_in, before_full_out}
 use Rattle.histories.proofs.Accepts.{Laid, laid_cases, laid_new, laid_old, laid_kind, laid_back, laid_full_cases, laid_full_old}
 use Rattle.histories.proofs.Fewer.{within_lay, fits_fewer}
 

@@ -1,19 +1,17 @@
 -- The rule's two histories of an open place are those that document 01 has, and there is one such pair. Assumes nothing.
-use mathlib.Core.Path.{◌≡◌, refl, sym, ap, ◌∙◌, subst}
-use mathlib.Core.Bool.{Bool, true, false, cond, ◌&&◌}
-use mathlib.Core.Logic.{◌⊎◌, inl, inr, ◌↔◌}
+use mathlib.Core.Path.{◌≡◌, refl, sym, ◌∙◌, subst}
+use mathlib.Core.Bool.{Bool, true, false, cond}
+use mathlib.Core.Logic.{◌⊎◌, inl, inr}
 use Prim.Native.Nat.{ℕ, ◌<◌}
 use native.Mathlib.Omega.{arith}
 use native.Mathlib.Decide.{dec_lt, ℕ_discrete}
-use lib.Dec.{eqb}
 use borrow.Author.Tests.{ne_eqb, lt-ltb}
-use Rattle.sets.specs.Sets.{below, only, difference, any, lowest}
+use Rattle.sets.specs.Sets.{any, lowest}
 use Rattle.sets.proofs.Booleans.{clash, is_false, and_intro, and_left, and_right, minus_intro, both_ways}
-use Rattle.sets.proofs.Tests.{any_elim, any_intro, lowest_below, lowest_least}
-use Rattle.histories.specs.declared.Kind.TheVariants.{Full}
+use Rattle.sets.proofs.Tests.{lowest_least}
 use Rattle.histories.specs.Histories.{History, Before, Accepted, Fits, IsRecorded, Blocker, ShownOf}
 use Rattle.histories.specs.Rule.{recorded, mourned, before, before_full, blockers, is_last, not_last, is_open, answer_with, answer, grown, second}
-use Rattle.histories.proofs.Exact.{before_in, before_full_in, before_out, before_full_out, full_back_elim, full_back_intro, Blocks, blocks, open_blocks, grown_cases, grown_new, recorded_returned}
+use Rattle.histories.proofs.Exact.{before_in, before_full_in, before_out, before_full_out, full_back_elim, full_back_intro, Blocks, open_blocks, grown_cases, grown_new, recorded_returned}
 
 pub is_recorded : (A : Accepted) → IsRecorded A (recorded A)
 unfolding recorded

@@ -1,6 +1,6 @@
 -- Each of the faulty records meets its number, computed. Assumes nothing.
 use mathlib.Core.Path.{◌≡◌, refl}
-use mathlib.Core.List.{[], ◌∷◌, ◌++◌, map}
+use mathlib.Core.List.{map}
 use Prim.Native.Nat.{ℕ}
 use Rattle.serials.specs.Rosters.{place_of, holds}
 use Rattle.serials.specs.Seconds.{itself, stands_for}

@@ -1,7 +1,7 @@
 -- A stored record as bytes: document 01, 'A stored record', and of 'Refusals' what its writer can cause (1 to 8). A section reads
 -- from the front of a list of bytes and gives its value with the bytes after it, or the first fault. A record is read by what serials count
 -- as in a group (`alias`; document 02, [2]): `itself` where no place has a second serial. Assumes nothing.
-use Rattle.std.specs.Prelude.{Bool, true, false, not, cond, ◌||◌, List, [], ◌∷◌, ◌++◌, ℕ, zero, suc, ◌+◌, ◌*◌, ◌/◌, ◌%◌, length, get_or, drop, eqb, leb, ltb}
+use Rattle.std.specs.Prelude.{Bool, true, false, not, cond, ◌||◌, List, [], ◌∷◌, ◌++◌, ℕ, zero, suc, ◌+◌, ◌*◌, ◌/◌, ◌%◌, length, get_or, drop, eqb, leb}
 use Rattle.sets.specs.Sets.{Places, nothing, with}
 use Rattle.histories.specs.declared.Kind.{Kind}
 use Rattle.histories.specs.declared.Kind.TheVariants.{Full, Short}

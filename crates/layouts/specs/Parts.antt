@@ -1,6 +1,6 @@
 -- The reader and the writer in their steps: what the contracts of the inner functions cite. No public contract cites this file.
 -- Assumes nothing.
-use Rattle.std.specs.Prelude.{◌≡◌, Bool, true, cond, ◌&&◌, List, [], ◌∷◌, ◌++◌, ℕ, zero, suc, ◌+◌, ◌-◌, ◌*◌, ◌≤◌, ◌<◌, length, get_or, take, drop, eqb, ltb}
+use Rattle.std.specs.Prelude.{◌≡◌, Bool, true, cond, ◌&&◌, List, [], ℕ, zero, suc, ◌+◌, ◌-◌, ◌*◌, ◌≤◌, ◌<◌, length, get_or, take, drop, eqb, ltb}
 use Rattle.sets.specs.Sets.{Places}
 use Rattle.sets.specs.PlaceSets.{has, Words}
 use Rattle.histories.specs.declared.Kind.{Kind}
@@ -14,7 +14,7 @@ use Rattle.layouts.specs.declared.Mourned.{Mourned}
 use Rattle.layouts.specs.declared.Mourned.TheVariants as M
 use Rattle.layouts.specs.declared.Tail.{Tail}
 use Rattle.layouts.specs.declared.Tail.TheVariants as T
-use Rattle.layouts.specs.Layout.{Parsed, got, refused, then, check, word_at, serial, roster_serials, roster_section, is_on, place_on, Head, Stored, layout}
+use Rattle.layouts.specs.Layout.{Parsed, got, refused, then, check, word_at, serial, roster_serials, roster_section, is_on, place_on, Head, layout}
 
 -- ---- the head, by what was read before
 

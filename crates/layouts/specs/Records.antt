@@ -4,7 +4,6 @@ use Rattle.std.specs.Prelude.{Bool, true, false, cond, ◌&&◌, List, [], ◌�
 use Rattle.sets.specs.Sets.{Places}
 use Rattle.sets.specs.PlaceSets.{packed}
 use Rattle.histories.specs.declared.Kind.{Kind}
-use Rattle.layouts.specs.declared.Record.{Record}
 use Rattle.layouts.specs.declared.Reading.{Reading}
 use Rattle.layouts.specs.declared.Reading.TheVariants as R
 use Rattle.layouts.specs.declared.Writing.{Writing}

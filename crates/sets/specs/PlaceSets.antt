@@ -1,6 +1,6 @@
 -- A set of places in two words: which places are its members. This is the one place that says which bit is which.
 -- Assumes nothing.
-use Rattle.std.specs.Prelude.{Bool, false, cond, ℕ, zero, suc, ◌+◌, ◌-◌, ◌*◌, ◌/◌, ◌%◌, ◌^◌, ◌<◌, eqb, ltb}
+use Rattle.std.specs.Prelude.{false, cond, ℕ, zero, suc, ◌+◌, ◌-◌, ◌*◌, ◌/◌, ◌%◌, ◌^◌, ◌<◌, eqb, ltb}
 use Rattle.sets.specs.Sets.{Places, below, intersection}
 use Rattle.sets.specs.declared.PlaceSet.{PlaceSet}
 use Rattle.sets.specs.declared.Found.{Found}

@@ -1,6 +1,5 @@
 -- `lookups::counts_as` meets its contract: one law for each answer. Assumes nothing.
 use mathlib.Core.Path.{sym}
-use borrow.Author.Rules.{rules}
 use Rattle.serials.proofs.Rosters.{found_lacks}
 use Rattle.serials.proofs.Seconds.{counts_zero, counts_other, counts_there, counts_past}
 use Rattle.lookups.proofs.counts_as.Goals as goal

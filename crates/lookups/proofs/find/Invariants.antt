@@ -1,11 +1,8 @@
 -- `lookups::find` meets its contract. The invariant: the serial's place is p and its place in what is left. Assumes nothing.
 use mathlib.Core.Path.{◌≡◌}
 use Prim.Native.Nat.{◌+◌, ◌-◌, ◌≤◌}
-use native.Mathlib.Omega.{arith}
 use lib.ListN.{length, drop}
-use borrow.Author.Rules.{rules}
 use Rattle.serials.specs.Rosters.{place_of}
-use Rattle.serials.proofs.Rosters.{walk_hit, walk_miss, found_here, found_nowhere}
 use Rattle.lookups.proofs.find.Given as goal
 
 abbrev pub invariant-loop-p : goal.invariant-loop-p

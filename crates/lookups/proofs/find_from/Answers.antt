@@ -1,12 +1,9 @@
 -- `lookups::find_from` meets its contract. The invariant: looking from i on finds what looking from `from` on finds.
 -- Assumes nothing.
-use mathlib.Core.Path.{◌≡◌, refl, sym, ap, ◌∙◌}
-use Prim.Native.Nat.{◌-◌}
+use mathlib.Core.Path.{refl, sym, ap, ◌∙◌}
 use native.Mathlib.Omega.{arith}
 use lib.ListN.{length}
-use borrow.Author.Rules.{rules}
 use Rattle.sets.specs.PlaceSets.{found}
-use Rattle.serials.specs.Rosters.{place_from}
 use Rattle.serials.proofs.Rosters.{from_hit, from_miss, from_past, found_here}
 use Rattle.lookups.proofs.find_from.Goals as goal
 

@@ -1,5 +1,4 @@
 -- `lookups::look_up` meets its contract: found as itself, by what it counts as, or not. Assumes nothing.
-use borrow.Author.Rules.{rules}
 use Rattle.serials.proofs.Seconds.{look_first, look_second, look_nothing}
 use Rattle.lookups.proofs.look_up.Goals as goal
 

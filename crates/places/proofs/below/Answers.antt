@@ -1,5 +1,4 @@
 -- `places::below` meets its contract. Assumes nothing.
-use borrow.Author.Rules.{rules}
 use Rattle.sets.proofs.Words.{below_low, below_high}
 use Rattle.places.proofs.below.Goals as goal
 

@@ -1,5 +1,4 @@
 -- `places::contains` meets its contract. Assumes nothing.
-use borrow.Author.Rules.{rules}
 use mathlib.Core.Path.{sym, ◌∙◌}
 use Rattle.sets.proofs.Words.{has_low, has_upper, has_past}
 use Rattle.sets.proofs.Digits.{bit_tested}

@@ -1,5 +1,4 @@
 -- `places::is_subset` meets its contract. Assumes nothing.
-use borrow.Author.Rules.{rules}
 use mathlib.Core.Path.{◌∙◌}
 use Rattle.sets.proofs.Laws.{subset_difference}
 use Rattle.places.proofs.is_subset.Goals as goal

@@ -1,5 +1,4 @@
 -- `places::only` meets its contract. Assumes nothing.
-use borrow.Author.Rules.{rules}
 use Rattle.sets.proofs.Words.{only_low, only_high, only_none}
 use Rattle.places.proofs.only.Goals as goal
 

@@ -1,5 +1,4 @@
 -- `places::with` meets its contract. Assumes nothing.
-use borrow.Author.Rules.{rules}
 use Rattle.sets.proofs.Laws.{union_only}
 use Rattle.places.proofs.with.Goals as goal
 

@@ -1,5 +1,4 @@
 -- `places::without` meets its contract. Assumes nothing.
-use borrow.Author.Rules.{rules}
 use Rattle.sets.proofs.Laws.{difference_only}
 use Rattle.places.proofs.without.Goals as goal
 

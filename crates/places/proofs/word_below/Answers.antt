@@ -1,5 +1,4 @@
 -- `places::word_below` meets its contract. Assumes nothing.
-use borrow.Author.Rules.{rules}
 use lib.Pow.{pow_pos}
 use Rattle.sets.proofs.Digits.{one_shl}
 use Rattle.sets.proofs.Words.{word_some, word_all}

@@ -1,6 +1,5 @@
 -- `records::all_there` meets its contract. Assumes nothing.
 use mathlib.Core.Path.{sym}
-use borrow.Author.Rules.{rules}
 use Rattle.layouts.proofs.Lists.{past_there, room_there}
 use Rattle.roster_bytes.proofs.all_there.Goals as goal
 

@@ -2,7 +2,6 @@
 use mathlib.Core.Path.{sym, ◌∙◌}
 use native.Mathlib.Omega.{arith}
 use borrow.Author.Rules.{rules}
-use borrow.Author.Tests.{not-true, not-false}
 use Rattle.layouts.proofs.Lists.{there_fits, copy_not_there, copy_too_many, copy_done}
 use Rattle.roster_bytes.proofs.copy_roster.Goals as goal
 

@@ -1,10 +1,7 @@
 -- `records::decode` meets its contract. The invariant: the first i serials stand at the front of the list. Assumes nothing.
 use mathlib.Core.Path.{◌≡◌, refl}
-use mathlib.Core.List.{◌++◌}
-use Prim.Native.Nat.{◌-◌, ◌≤◌}
 use native.Mathlib.Omega.{arith}
-use lib.ListN.{length, drop, length-set}
-use borrow.Author.Rules.{rules}
+use lib.ListN.{length-set}
 use Rattle.layouts.specs.Records.{serials}
 use Rattle.layouts.proofs.Lists.{laid_more}
 use Rattle.roster_bytes.proofs.decode.Goals as goal

@@ -1,12 +1,9 @@
 -- `records::decode` meets its contract. The invariant: the first i serials stand at the front of the list. Assumes nothing.
-use mathlib.Core.Path.{◌≡◌, refl}
+use mathlib.Core.Path.{◌≡◌}
 use mathlib.Core.List.{◌++◌}
 use Prim.Native.Nat.{◌-◌, ◌≤◌}
-use native.Mathlib.Omega.{arith}
-use lib.ListN.{length, drop, length-set}
-use borrow.Author.Rules.{rules}
+use lib.ListN.{length, drop}
 use Rattle.layouts.specs.Records.{serials}
-use Rattle.layouts.proofs.Lists.{laid_more}
 use Rattle.roster_bytes.proofs.decode.Given as goal
 
 abbrev pub invariant-loop-i : goal.invariant-loop-i

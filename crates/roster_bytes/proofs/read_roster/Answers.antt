@@ -1,7 +1,6 @@
 -- `roster_bytes::read_roster` meets its contract: one law for each answer. Assumes nothing.
 use mathlib.Core.List.{[]}
 use native.Mathlib.Omega.{arith}
-use borrow.Author.Rules.{rules}
 use Rattle.layouts.proofs.Heads.{section_early, section_few, section_many, section_read}
 use Rattle.roster_bytes.proofs.read_roster.Goals as goal
 

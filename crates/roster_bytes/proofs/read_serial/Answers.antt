@@ -1,9 +1,6 @@
 -- `roster_bytes::read_serial` meets its contract: one law for each answer. Assumes nothing.
-use mathlib.Core.Path.{◌≡◌, refl, sym, ◌∙◌}
-use Prim.Native.Nat.{ℕ}
+use mathlib.Core.Path.{sym, ◌∙◌}
 use native.Mathlib.Omega.{arith}
-use borrow.Author.Rules.{rules}
-use borrow.Author.Tests.{not-true, not-false}
 use Rattle.layouts.proofs.Lists.{there_fits, there_lacks}
 use Rattle.layouts.proofs.Heads.{serial_missing, serial_nil, serial_some}
 use Rattle.roster_bytes.proofs.read_serial.Goals as goal

@@ -1,5 +1,4 @@
 -- `records::read_serials` meets its contract. Assumes nothing.
-use borrow.Author.Rules.{rules}
 use Rattle.layouts.proofs.Judging.{roster_parsed, roster_rostered}
 use Rattle.roster_bytes.proofs.read_serials.Goals as goal
 

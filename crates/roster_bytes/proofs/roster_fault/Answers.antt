@@ -3,7 +3,6 @@ use mathlib.Core.Path.{sym, ◌∙◌}
 use mathlib.Core.List.{[]}
 use native.Mathlib.Omega.{arith}
 use lib.Seq.{length-take-le}
-use borrow.Author.Rules.{rules}
 use Rattle.layouts.proofs.Judging.{fault_there, fault_1, fault_0}
 use Rattle.roster_bytes.proofs.roster_fault.Goals as goal
 

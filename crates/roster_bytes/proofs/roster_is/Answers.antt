@@ -1,8 +1,6 @@
 -- `roster_bytes::roster_is` meets its contract: one law for each answer. Assumes nothing.
 use mathlib.Core.Path.{sym, ◌∙◌}
 use native.Mathlib.Omega.{arith}
-use borrow.Author.Rules.{rules}
-use borrow.Author.Tests.{not-true, not-false}
 use Rattle.layouts.proofs.Lists.{there_fits, is_not_there, is_not_long, is_same}
 use Rattle.roster_bytes.proofs.roster_is.Goals as goal
 

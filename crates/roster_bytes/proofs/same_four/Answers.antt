@@ -1,5 +1,4 @@
 -- `records::same_four` meets its contract. Assumes nothing.
-use borrow.Author.Rules.{rules}
 use Rattle.layouts.proofs.Lists.{alike_four}
 use Rattle.roster_bytes.proofs.same_four.Goals as goal
 

@@ -1,11 +1,7 @@
 -- `records::same_last` meets its contract. The invariant: `same` says whether those before i are alike. Assumes nothing.
-use mathlib.Core.Path.{◌≡◌, refl, sym, ap, ◌∙◌}
+use mathlib.Core.Path.{refl, sym, ap, ◌∙◌}
 use mathlib.Core.Bool.{Bool, ◌&&◌, and-true}
-use Prim.Native.Nat.{◌-◌, ◌≤◌}
 use native.Mathlib.Omega.{arith}
-use lib.ListN.{length}
-use borrow.Author.Rules.{rules}
-use Rattle.layouts.specs.Parts.{alike_from}
 use Rattle.layouts.proofs.Lists.{alike_next, alike_done}
 use Rattle.roster_bytes.proofs.same_last.Goals as goal
 

@@ -1,5 +1,4 @@
 -- `records::same_one` meets its contract. Assumes nothing.
-use borrow.Author.Rules.{rules}
 use Rattle.roster_bytes.proofs.same_one.Goals as goal
 
 pub returns : goal.returns

@@ -1,11 +1,7 @@
 -- `records::same_serials` meets its contract. The invariant: the lists are alike where they are from i on. Assumes nothing.
-use mathlib.Core.Path.{◌≡◌, refl, sym, ◌∙◌}
-use Prim.Native.Nat.{◌+◌, ◌-◌, ◌≤◌}
+use mathlib.Core.Path.{refl, sym, ◌∙◌}
+use Prim.Native.Nat.{◌+◌}
 use native.Mathlib.Omega.{arith}
-use lib.ListN.{length}
-use borrow.Author.Rules.{rules}
-use borrow.Author.Tests.{not-true, not-false}
-use Rattle.layouts.specs.Parts.{alike_from}
 use Rattle.layouts.proofs.Lists.{alike_all, alike_yes, alike_no}
 use Rattle.roster_bytes.proofs.same_serials.Goals as goal
 

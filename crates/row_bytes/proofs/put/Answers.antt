@@ -1,7 +1,6 @@
 -- `row_bytes::put` meets its contract. Assumes nothing.
 use native.Mathlib.Omega.{arith}
 use Rattle.rows.proofs.Bytes.{put_misfits, put_fits}
-use borrow.Author.Rules.{rules}
 use Rattle.row_bytes.proofs.put.Goals as goal
 
 pub returns-then-out-lt16 : goal.returns-then-out-lt16

@@ -2,7 +2,6 @@
 use mathlib.Core.Path.{sym, ◌∙◌}
 use native.Mathlib.Omega.{arith}
 use Rattle.rows.proofs.Bytes.{row_out, row_fits}
-use borrow.Author.Rules.{rules}
 use Rattle.row_bytes.proofs.read.Goals as goal
 
 pub returns-then-bytes-p : goal.returns-then-bytes-p

@@ -1,7 +1,6 @@
 -- `row_bytes::read_word` meets its contract. Assumes nothing.
 use native.Mathlib.Omega.{arith}
 use Rattle.rows.proofs.Bytes.{word_read}
-use borrow.Author.Rules.{rules}
 use Rattle.row_bytes.proofs.read_word.Goals as goal
 
 pub returns : goal.returns

@@ -1,9 +1,9 @@
 -- `row_tables::copy` meets its contract. The invariant: the first i bytes are copied. Assumes nothing.
 use mathlib.Core.Path.{◌≡◌, refl, ap, ◌∙◌}
 use mathlib.Core.List.{◌++◌}
-use Prim.Native.Nat.{ℕ, ◌-◌, ◌≤◌}
+use Prim.Native.Nat.{ℕ}
 use native.Mathlib.Omega.{arith}
-use lib.ListN.{length, take, drop, length-set}
+use lib.ListN.{take, drop, length-set}
 use borrow.Author.Rules.{rules}
 use Rattle.rows.proofs.Bytes.{copied}
 use Rattle.row_tables.proofs.copy.Goals as goal

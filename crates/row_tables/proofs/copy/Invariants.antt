@@ -1,11 +1,8 @@
 -- `row_tables::copy` meets its contract. The invariant: the first i bytes are copied. Assumes nothing.
-use mathlib.Core.Path.{◌≡◌, refl, ap, ◌∙◌}
+use mathlib.Core.Path.{◌≡◌}
 use mathlib.Core.List.{◌++◌}
-use Prim.Native.Nat.{ℕ, ◌-◌, ◌≤◌}
-use native.Mathlib.Omega.{arith}
-use lib.ListN.{length, take, drop, length-set}
-use borrow.Author.Rules.{rules}
-use Rattle.rows.proofs.Bytes.{copied}
+use Prim.Native.Nat.{◌-◌, ◌≤◌}
+use lib.ListN.{length, take, drop}
 use Rattle.row_tables.proofs.copy.Given as goal
 
 abbrev pub invariant-loop-i : goal.invariant-loop-i

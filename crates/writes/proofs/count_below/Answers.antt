@@ -1,6 +1,5 @@
 -- `writes::count_below` meets its contract. Assumes nothing.
 use mathlib.Core.Path.{◌∙◌}
-use borrow.Author.Rules.{rules}
 use Rattle.writes.proofs.Laying.{count_on}
 use Rattle.writes.proofs.count_below.Goals as goal
 

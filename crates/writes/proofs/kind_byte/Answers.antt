@@ -1,5 +1,4 @@
 -- `writes::kind_byte` meets its contract. Assumes nothing.
-use borrow.Author.Rules.{rules}
 use Rattle.layouts.specs.Layout.{kind_byte}
 use Rattle.writes.proofs.kind_byte.Goals as goal
 

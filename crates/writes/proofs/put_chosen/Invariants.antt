@@ -1,17 +1,11 @@
 -- `writes::put_chosen` meets its contract. The invariant: the bytes of those of the first i that are chosen stand at the front, p of
 -- them. Assumes nothing.
-use mathlib.Core.Path.{◌≡◌, refl, sym, ap, ◌∙◌}
-use mathlib.Core.List.{List}
-use Prim.Native.Nat.{ℕ, ◌-◌, ◌≤◌, ◌<◌}
-use native.Mathlib.Omega.{arith}
+use mathlib.Core.Path.{◌≡◌}
+use Prim.Native.Nat.{◌-◌, ◌≤◌}
 use lib.ListN.{length, take}
-use lib.Seq.{take_all}
-use borrow.Author.Rules.{rules}
 use Rattle.sets.specs.PlaceSets.{has}
 use Rattle.layouts.specs.Layout.{serials_bytes, chosen}
 use Rattle.layouts.specs.Fronts.{front}
-use Rattle.layouts.proofs.Fronts.{front_none}
-use Rattle.writes.proofs.Laying.{part_long, chosen_four, turn_size, turn_room, turn_laid}
 use Rattle.writes.proofs.put_chosen.Given as goal
 
 abbrev pub invariant-loop-i : goal.invariant-loop-i

@@ -1,8 +1,6 @@
 -- `writes::put_if` meets its contract. Assumes nothing.
 use mathlib.Core.Path.{◌≡◌, sym}
 use mathlib.Core.Bool.{true, false}
-use borrow.Author.Rules.{rules}
-use borrow.Author.Tests.{not-true, not-false}
 use Rattle.layouts.proofs.Fronts.{front_none}
 use Rattle.writes.proofs.Laying.{serial_long}
 use Rattle.writes.proofs.put_if.Goals as goal

@@ -1,8 +1,6 @@
 -- `writes::put_mourned` meets its contract. Assumes nothing.
-use mathlib.Core.Path.{◌∙◌}
 use native.Mathlib.Omega.{arith}
 use lib.ListN.{length-set}
-use borrow.Author.Rules.{rules}
 use Rattle.writes.proofs.Laying.{section_long, section_laid}
 use Rattle.writes.proofs.put_mourned.Goals as goal
 

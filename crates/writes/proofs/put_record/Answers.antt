@@ -1,5 +1,4 @@
 -- `writes::put_record` meets its contract: each section makes the front of the buffer longer. Assumes nothing.
-use borrow.Author.Rules.{rules}
 use Rattle.sets.specs.PlaceSets.{has}
 use Rattle.writes.proofs.Laying.{record_laid}
 use Rattle.writes.proofs.put_record.Goals as goal

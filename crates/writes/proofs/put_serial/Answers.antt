@@ -1,7 +1,6 @@
 -- `writes::put_serial` meets its contract: four stores at the front. Assumes nothing.
 use native.Mathlib.Omega.{arith}
 use lib.ListN.{length-set}
-use borrow.Author.Rules.{rules}
 use Rattle.layouts.specs.Layout.{serial_bytes}
 use Rattle.layouts.specs.Fronts.{front}
 use Rattle.writes.proofs.Laying.{four}

@@ -4,7 +4,6 @@ use mathlib.Core.List.{◌∷◌}
 use Prim.Native.Nat.{ℕ}
 use native.Mathlib.Omega.{arith}
 use lib.ListN.{length-set}
-use borrow.Author.Rules.{rules}
 use Rattle.layouts.specs.Layout.{serial_bytes}
 use Rattle.layouts.specs.Fronts.{front}
 use Rattle.writes.proofs.Laying.{section_long, section_laid}

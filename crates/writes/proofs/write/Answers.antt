@@ -3,7 +3,6 @@ use mathlib.Core.Path.{◌≡◌, sym, ◌∙◌}
 use Prim.Native.Nat.{◌+◌, ◌*◌}
 use native.Mathlib.Omega.{arith}
 use lib.ListN.{length}
-use borrow.Author.Rules.{rules}
 use Rattle.sets.specs.PlaceSets.{has}
 use Rattle.sets.proofs.Counting.{count_at_most}
 use Rattle.layouts.specs.Layout.{chosen}
