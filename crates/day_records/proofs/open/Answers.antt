@@ -16,6 +16,6 @@ pub returns-in-0 : goal.returns-in-0
 returns-in-0 c =
     let a = c.args in
     elim c.in-0-1.branch [
-      in-0-1 w ↦ c.unbegun.ensures ∙ begun_unknown a.kind a.list.now (λ e. omega arith) (λ e. omega arith)
-    | in_default-1 w ↦ c.unbegun.ensures ∙ begun_unknown a.kind a.list.now (λ e. omega arith) (λ e. omega arith)
+      | in-0-1 w ↦ c.unbegun.ensures ∙ begun_unknown a.kind a.list.now (λ e. omega arith) (λ e. omega arith)
+      | in_default-1 w ↦ c.unbegun.ensures ∙ begun_unknown a.kind a.list.now (λ e. omega arith) (λ e. omega arith)
     ]

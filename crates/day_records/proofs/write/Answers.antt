@@ -33,5 +33,5 @@ returns c =
     let a = c.args in
     let l : length a.d.serials ≡ 128 = search rules in
     let w = write_done a.d a.place.0 a.out.now a.at _ c.size-n.ensures.value c.if-n-place.false (sym c.contains.ensures ∙ c.if-not-contains.false) c.size-n.ensures.upper_bound
-        (length-take-le _ _ (omega (arith, c.size-n.ensures.upper_bound))) _ _ _ c.heard-mourned.ensures (c.write.ensures.value, c.write.ensures.out_after) in
+    (length-take-le _ _ (omega (arith, c.size-n.ensures.upper_bound))) _ _ _ c.heard-mourned.ensures (c.write.ensures.value, c.write.ensures.out_after) in
     record { value = w.0; out_after = w.1 }

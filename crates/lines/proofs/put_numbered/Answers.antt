@@ -21,6 +21,9 @@ returns-then-out-at-2 c =
 pub returns : goal.returns
 returns c =
     let a = c.args in
-    record { value = (put_laid (line (a.head.now ++ (decimal a.number ++ a.tail.now))) a.out.now a.at (length a.head.now + c.count_digits-count.result + length a.tail.now + 1)
-    (omega (arith, length_numbered a.head.now (decimal a.number) a.tail.now)) (omega arith) _ c.lay_numbered.ensures).0; out_after = (put_laid (line (a.head.now ++ (decimal a.number ++ a.tail.now))) a.out.now a.at (length a.head.now + c.count_digits-count.result + length a.tail.now + 1)
-    (omega (arith, length_numbered a.head.now (decimal a.number) a.tail.now)) (omega arith) _ c.lay_numbered.ensures).1 }
+    record {
+      value = (put_laid (line (a.head.now ++ (decimal a.number ++ a.tail.now))) a.out.now a.at (length a.head.now + c.count_digits-count.result + length a.tail.now + 1)
+          (omega (arith, length_numbered a.head.now (decimal a.number) a.tail.now)) (omega arith) _ c.lay_numbered.ensures).0;
+      out_after = (put_laid (line (a.head.now ++ (decimal a.number ++ a.tail.now))) a.out.now a.at (length a.head.now + c.count_digits-count.result + length a.tail.now + 1)
+          (omega (arith, length_numbered a.head.now (decimal a.number) a.tail.now)) (omega arith) _ c.lay_numbered.ensures).1;
+    }

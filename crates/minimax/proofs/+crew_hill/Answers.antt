@@ -64,11 +64,11 @@ pub hill-loop-number-preserved : goal.hill-loop-number-preserved
 hill-loop-number-preserved t c =
     let r = c.args.r in
     elim c.if-is_taken.branch [
-      hill-then-is_taken w ↦ (
+      | hill-then-is_taken w ↦ (
         omega (arith, c.loop-number-test.true),
         w.most-is ∙ hill_taken r _ _ _ c.hand_over-got.ensures _ c.is_taken.ensures w.if-is_taken.true _ _ _ c.loop-number.invariant.1 w.crew-lasts.ensures w.larger-most.ensures,
       )
-    | hill-else-is_taken w ↦ (
+      | hill-else-is_taken w ↦ (
         omega (arith, c.loop-number-test.true),
         w.most-is ∙ hill_refused r _ _ _ c.hand_over-got.ensures _ c.is_taken.ensures w.if-is_taken.false _ c.loop-number.invariant.1,
       )

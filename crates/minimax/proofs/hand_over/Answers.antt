@@ -43,7 +43,7 @@ slice_bounds-offer-end c =
     let l : length args.r.serials ≡ 128 = search rules in
     let long = sym (length-take-le _ _ (omega (arith, c.size-n.ensures.upper_bound))) in
     let inside = end_inside args.r args.place.0 args.number c.requires.r_bound c.requires.place_bound _ c.size-n.ensures.value long
-        (search rules) _ c.kind_numbered-kind.ensures _ refl _ _ (c.write-done.ensures.value, c.write-done.ensures.out_after) _ c.in-Next.is in
+    (search rules) _ c.kind_numbered-kind.ensures _ refl _ _ (c.write-done.ensures.value, c.write-done.ensures.out_after) _ c.in-Next.is in
     sym (length-take-le _ _ inside)
 
 pub returns : goal.returns

@@ -50,8 +50,7 @@ loop-j-preserved c =
     let a = c.args in
     let e = found_along a.roster.now c.requires.roster_value c.loop-j.from _ c.locate.result c.locate.ensures in
     let on : c.in-At.place.0 < length a.roster.now = (found_at _ _ _ (sym e ∙ c.in-At.is)).1 in
-    let there = c.read_serial-got.ensures.at_in_bounds c.if-fault-ne0.false in
-    (
+    let there = c.read_serial-got.ensures.at_in_bounds c.if-fault-ne0.false in (
       omega (arith, c.loop-j-test.true),
       omega (arith, there),
       omega (arith, on),

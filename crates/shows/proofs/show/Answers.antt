@@ -13,10 +13,14 @@ pub returns-then-contains : goal.returns-then-contains
 returns-then-contains c = record { value = (show_not_last _ _ _ _ _ _ _ _ _ (omega (arith, c.size.ensures.value)) (sym c.contains.ensures ∙ c.if-contains.true)).0; first_after = (show_not_last _ _ _ _ _ _ _ _ _ (omega (arith, c.size.ensures.value)) (sym c.contains.ensures ∙ c.if-contains.true)).1.0; second_after = (show_not_last _ _ _ _ _ _ _ _ _ (omega (arith, c.size.ensures.value)) (sym c.contains.ensures ∙ c.if-contains.true)).1.1 }
 
 pub returns-in_default : goal.returns-in_default
-returns-in_default c = record { value = (show_last _ _ _ _ _ _ _ _ _ (omega (arith, c.size.ensures.value))
-    (blocker_none _ _ _ _ _ (size_at_most _) _ c.blockers-blocking.ensures _ c.lowest-found.ensures c.in_default.is (sym c.contains.ensures ∙ c.if-contains.false))).0; first_after = (show_last _ _ _ _ _ _ _ _ _ (omega (arith, c.size.ensures.value))
-    (blocker_none _ _ _ _ _ (size_at_most _) _ c.blockers-blocking.ensures _ c.lowest-found.ensures c.in_default.is (sym c.contains.ensures ∙ c.if-contains.false))).1.0; second_after = (show_last _ _ _ _ _ _ _ _ _ (omega (arith, c.size.ensures.value))
-    (blocker_none _ _ _ _ _ (size_at_most _) _ c.blockers-blocking.ensures _ c.lowest-found.ensures c.in_default.is (sym c.contains.ensures ∙ c.if-contains.false))).1.1 }
+returns-in_default c = record {
+  value = (show_last _ _ _ _ _ _ _ _ _ (omega (arith, c.size.ensures.value))
+      (blocker_none _ _ _ _ _ (size_at_most _) _ c.blockers-blocking.ensures _ c.lowest-found.ensures c.in_default.is (sym c.contains.ensures ∙ c.if-contains.false))).0;
+  first_after = (show_last _ _ _ _ _ _ _ _ _ (omega (arith, c.size.ensures.value))
+      (blocker_none _ _ _ _ _ (size_at_most _) _ c.blockers-blocking.ensures _ c.lowest-found.ensures c.in_default.is (sym c.contains.ensures ∙ c.if-contains.false))).1.0;
+  second_after = (show_last _ _ _ _ _ _ _ _ _ (omega (arith, c.size.ensures.value))
+      (blocker_none _ _ _ _ _ (size_at_most _) _ c.blockers-blocking.ensures _ c.lowest-found.ensures c.in_default.is (sym c.contains.ensures ∙ c.if-contains.false))).1.1;
+}
 
 pub show_open-requires : goal.show_open-requires
 show_open-requires c =

@@ -16,7 +16,11 @@ overflow_mul-blocker c =
     omega (arith, blocker_small _ _ _ c.requires.blocker_value)
 
 pub returns : goal.returns
-returns c = record { value = (show_both _ _ _ _ _ _ _ _ _ c.requires.place_bound.0 c.requires.place_bound.1 _ c.size-n.ensures.value c.if-first-n.false c.if-second-n.false _ _ _ _ _ c.requires.blocker_value (heard_row _ _ _ _ _ _ c.heard_row-heard.ensures)
-    c.lay_both.ensures.first_after c.lay_both.ensures.second_after c.put.ensures).0; first_after = (show_both _ _ _ _ _ _ _ _ _ c.requires.place_bound.0 c.requires.place_bound.1 _ c.size-n.ensures.value c.if-first-n.false c.if-second-n.false _ _ _ _ _ c.requires.blocker_value (heard_row _ _ _ _ _ _ c.heard_row-heard.ensures)
-    c.lay_both.ensures.first_after c.lay_both.ensures.second_after c.put.ensures).1.0; second_after = (show_both _ _ _ _ _ _ _ _ _ c.requires.place_bound.0 c.requires.place_bound.1 _ c.size-n.ensures.value c.if-first-n.false c.if-second-n.false _ _ _ _ _ c.requires.blocker_value (heard_row _ _ _ _ _ _ c.heard_row-heard.ensures)
-    c.lay_both.ensures.first_after c.lay_both.ensures.second_after c.put.ensures).1.1 }
+returns c = record {
+  value = (show_both _ _ _ _ _ _ _ _ _ c.requires.place_bound.0 c.requires.place_bound.1 _ c.size-n.ensures.value c.if-first-n.false c.if-second-n.false _ _ _ _ _ c.requires.blocker_value (heard_row _ _ _ _ _ _ c.heard_row-heard.ensures)
+      c.lay_both.ensures.first_after c.lay_both.ensures.second_after c.put.ensures).0;
+  first_after = (show_both _ _ _ _ _ _ _ _ _ c.requires.place_bound.0 c.requires.place_bound.1 _ c.size-n.ensures.value c.if-first-n.false c.if-second-n.false _ _ _ _ _ c.requires.blocker_value (heard_row _ _ _ _ _ _ c.heard_row-heard.ensures)
+      c.lay_both.ensures.first_after c.lay_both.ensures.second_after c.put.ensures).1.0;
+  second_after = (show_both _ _ _ _ _ _ _ _ _ c.requires.place_bound.0 c.requires.place_bound.1 _ c.size-n.ensures.value c.if-first-n.false c.if-second-n.false _ _ _ _ _ c.requires.blocker_value (heard_row _ _ _ _ _ _ c.heard_row-heard.ensures)
+      c.lay_both.ensures.first_after c.lay_both.ensures.second_after c.put.ensures).1.1;
+}

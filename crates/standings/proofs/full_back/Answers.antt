@@ -1,7 +1,6 @@
 -- `answers::full_back` meets its contract. Assumes nothing.
 use mathlib.Core.Path.{◌∙◌}
 use Rattle.answers.proofs.Answers.{full_back_is}
-use borrow.Author.Rules.{rules}
 use Rattle.standings.proofs.full_back.Goals as goal
 
 pub returns : goal.returns

@@ -1,7 +1,6 @@
 -- `standings::kind_of` meets its contract. Assumes nothing.
 use mathlib.Core.Path.{sym, ◌∙◌}
 use Rattle.answers.proofs.Answers.{kind_full, kind_short}
-use borrow.Author.Rules.{rules}
 use Rattle.standings.proofs.kind_of.Goals as goal
 
 pub returns-then-contains : goal.returns-then-contains

@@ -1,7 +1,6 @@
 -- `standings::recorded` meets its contract. Assumes nothing.
 use Rattle.answers.proofs.Walks.{recorded_row, recorded_none}
 use mathlib.Core.Path.{sym, ◌∙◌}
-use borrow.Author.Rules.{rules}
 use Rattle.standings.proofs.recorded.Goals as goal
 
 pub returns-then-contains : goal.returns-then-contains

@@ -1,7 +1,6 @@
 -- `answers::roster` meets its contract. Assumes nothing.
 use mathlib.Core.Path.{◌∙◌}
 use Rattle.answers.proofs.Views.{roster_is_lem}
-use borrow.Author.Rules.{rules}
 use Rattle.standings.proofs.roster.Goals as goal
 
 pub returns : goal.returns

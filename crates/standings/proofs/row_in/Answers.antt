@@ -3,7 +3,6 @@ use mathlib.Core.Path.{ap, ◌∙◌}
 use Rattle.sets.specs.Sets.{intersection}
 use Rattle.sets.specs.PlaceSets.{has}
 use Rattle.rows.proofs.Laws.{has_row}
-use borrow.Author.Rules.{rules}
 use Rattle.standings.proofs.row_in.Goals as goal
 
 pub returns : goal.returns

@@ -1,7 +1,6 @@
 -- `standings::unheard` meets its contract. Assumes nothing.
 use Rattle.answers.proofs.Answers.{unheard_is}
 use Rattle.sets.specs.PlaceSets.{has}
-use borrow.Author.Rules.{rules}
 use Rattle.standings.proofs.unheard.Goals as goal
 
 pub returns : goal.returns

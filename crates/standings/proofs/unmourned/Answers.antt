@@ -1,6 +1,5 @@
 -- `standings::unmourned` meets its contract. Assumes nothing.
 use Rattle.answers.proofs.Answers.{unmourned_is}
-use borrow.Author.Rules.{rules}
 use Rattle.standings.proofs.unmourned.Goals as goal
 
 pub returns : goal.returns
