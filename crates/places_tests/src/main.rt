@@ -6,6 +6,7 @@ ghost use Rattle.sets.specs.Sets as sets;
 ghost use Rattle.sets.specs.PlaceSets.{has};
 
 use sets::{Found, Place, PlaceSet};
+use std::io::{self, Stdout};
 
 // How many members, one after another.
 fn tally(s: PlaceSet) -> usize
@@ -24,60 +25,56 @@ fn tally(s: PlaceSet) -> usize
 }
 
 // The members in rising order.
-fn print_members(s: PlaceSet) {
+fn print_members(out: Stdout, s: PlaceSet) -> io::Result<()> {
     let mut left = s;
     loop {
         let found = places::lowest(left);
         let Found::At(p) = found else {
-            return;
+            return Ok(());
         };
-        io::print_decimal(1, p.0 as u64);
-        io::write_all(1, b" ");
+        print!(out; "{} ", p.0)?;
         left = places::without(left, p);
     }
 }
 
 // One line: the members, how many were passed one by one, and the count.
-fn print(s: PlaceSet) {
-    print_members(s);
-    io::write_all(1, b"| ");
-    io::print_decimal(1, tally(s) as u64);
-    io::write_all(1, b" ");
-    io::print_decimal(1, places::count(s) as u64);
-    io::write_all(1, b"\n");
+fn print(out: Stdout, s: PlaceSet) -> io::Result<()> {
+    print_members(out, s)?;
+    println!(out; "| {} {}", tally(s), places::count(s))
 }
 
-// Whether a test passed, as a word.
-fn print_bool(b: bool) {
-    if b {
-        io::write_all(1, b"true\n");
-    } else {
-        io::write_all(1, b"false\n");
-    }
-}
-
-fn main() {
+fn main(rt: HostRuntime) -> io::Result<()> {
+    let out = rt.stdout();
     let a = places::below(3);
     let b = places::with(places::with(a, Place(64)), Place(127));
-    print(places::empty());
-    print(a);
-    print(b);
+    print(out, places::empty())?;
+    print(out, a)?;
+    print(out, b)?;
     // a place of 128 or more is in no set and changes none
-    print(places::with(a, Place(128)));
-    print(places::without(b, Place(0xffff_ffff_ffff_ffff)));
-    print(places::only(Place(128)));
-    print_bool(places::contains(b, Place(127)));
-    print_bool(places::contains(b, Place(128)));
-    print(places::without(b, Place(64)));
-    print(places::union(places::only(Place(63)), places::only(Place(64))));
-    print(places::intersection(a, b));
-    print(places::difference(b, a));
-    print_bool(places::is_subset(a, b));
-    print_bool(places::is_subset(b, a));
-    print_bool(places::is_empty(places::difference(a, b)));
-    print_bool(places::same(
-        a,
-        places::without(places::without(b, Place(64)), Place(127)),
-    ));
-    print(places::difference(places::below(1000), places::below(120)));
+    print(out, places::with(a, Place(128)))?;
+    print(out, places::without(b, Place(0xffff_ffff_ffff_ffff)))?;
+    print(out, places::only(Place(128)))?;
+    println!(out; "{}", places::contains(b, Place(127)))?;
+    println!(out; "{}", places::contains(b, Place(128)))?;
+    print(out, places::without(b, Place(64)))?;
+    print(
+        out,
+        places::union(places::only(Place(63)), places::only(Place(64))),
+    )?;
+    print(out, places::intersection(a, b))?;
+    print(out, places::difference(b, a))?;
+    println!(out; "{}", places::is_subset(a, b))?;
+    println!(out; "{}", places::is_subset(b, a))?;
+    println!(out; "{}", places::is_empty(places::difference(a, b)))?;
+    println!(out;
+        "{}",
+        places::same(
+            a,
+            places::without(places::without(b, Place(64)), Place(127)),
+        )
+    )?;
+    print(
+        out,
+        places::difference(places::below(1000), places::below(120)),
+    )
 }

@@ -1,11 +1,27 @@
 // Reading records: the cases stand in the file stdin, one to a line, a name and the record's bytes in hexadecimal. Behind a
 // colon they are read as a stream's, behind a semicolon as a lone record's, behind an equals sign as a stream's for a group
 // with second serials, and behind an at sign for the ticket desk of that group; a line with none of these is a heading.
-ghost use Rattle.std.specs.Prelude.{◌≤◌, length};
-ghost use Rattle.io.specs.Counts.{IsPrefixLen};
+ghost use Rattle.std.specs.Prelude.{◌≤◌, length, IfOk};
 
 use crate::{desk, say};
 use records::Reading;
+use std::io::{self, Read, Stdin, Stdout};
+
+// Reads until the buffer is full or the input has ended, and says how many bytes came.
+pub fn read_full(from: Stdin, buf: &mut [u8]) -> io::Result<usize>
+    ensures { IfOk result (λ n. n ≤ length buf.new) }
+{
+    let mut input = from;
+    let mut done = 0;
+    while done < buf.len() {
+        let n = input.read(&mut buf[done..])?;
+        if n == 0 {
+            break;
+        }
+        done += n;
+    }
+    Ok(done)
+}
 
 // The value of a hexadecimal digit, or 16.
 fn digit(c: u8) -> u8
@@ -60,7 +76,7 @@ fn store(out: &mut [u8], at: usize, x: u8) {
 
 // The bytes that a text spells, two digits each, and how many they are.
 fn decode(text: &[u8], out: &mut [u8]) -> usize
-    ensures { IsPrefixLen result out.new }
+    ensures { result ≤ length out.new }
 {
     let mut n = 0;
     let mut high = 16;
@@ -82,7 +98,7 @@ fn decode(text: &[u8], out: &mut [u8]) -> usize
 // The first position of a byte from a position on, or the end.
 fn find(bytes: &[u8], from: usize, x: u8) -> usize
     requires { from ≤ length bytes.now }
-    ensures { (from ≤ result) × IsPrefixLen result bytes.now }
+    ensures { (from ≤ result) × (result ≤ length bytes.now) }
 {
     let mut i = from;
     while i < bytes.len() {
@@ -109,80 +125,84 @@ pub fn read_lone(bytes: &[u8]) -> Reading {
 }
 
 // The record that a text spells, read as one of a stream.
-fn stream(name: &[u8], text: &[u8]) {
+fn stream(to: Stdout, name: &[u8], text: &[u8]) -> io::Result<()> {
     let mut bytes = [0u8; 64];
     let n = decode(text, &mut bytes);
-    say::reading(name, read(&bytes[..n], 0));
+    say::reading(to, name, read(&bytes[..n], 0))
 }
 
 // The same, read as a lone record.
-fn lone(name: &[u8], text: &[u8]) {
+fn lone(to: Stdout, name: &[u8], text: &[u8]) -> io::Result<()> {
     let mut bytes = [0u8; 64];
     let n = decode(text, &mut bytes);
-    say::reading(name, read_lone(&bytes[..n]));
+    say::reading(to, name, read_lone(&bytes[..n]))
 }
 
 // The same, read as one of a stream for a group of 1 and 2 whose second serials are 8 and 9.
-fn swapped(name: &[u8], text: &[u8]) {
+fn swapped(to: Stdout, name: &[u8], text: &[u8]) -> io::Result<()> {
     let firsts = [1u32, 2];
     let seconds = [8u32, 9];
     let mut bytes = [0u8; 64];
     let n = decode(text, &mut bytes);
-    say::reading(name, records::read(&bytes[..n], 0, &firsts, &seconds));
+    say::reading(to, name, records::read(&bytes[..n], 0, &firsts, &seconds))
 }
 
 // The same, as the ticket desk of that group sees it.
-fn shown(name: &[u8], text: &[u8]) {
+fn shown(to: Stdout, name: &[u8], text: &[u8]) -> io::Result<()> {
     let mut bytes = [0u8; 64];
     let n = decode(text, &mut bytes);
-    desk::seen(name, &bytes[..n]);
+    desk::seen(to, name, &bytes[..n])
 }
 
 // One line: a case or a heading.
-fn line(words: &[u8]) {
+fn line(to: Stdout, words: &[u8]) -> io::Result<()> {
     let colon = find(words, 0, b':');
     let semicolon = find(words, 0, b';');
     let equals = find(words, 0, b'=');
     let at = find(words, 0, b'@');
     if colon < words.len() {
-        stream(&words[..colon], &words[colon..]);
+        stream(to, &words[..colon], &words[colon..])?;
     } else if semicolon < words.len() {
-        lone(&words[..semicolon], &words[semicolon..]);
+        lone(to, &words[..semicolon], &words[semicolon..])?;
     } else if equals < words.len() {
-        swapped(&words[..equals], &words[equals..]);
+        swapped(to, &words[..equals], &words[equals..])?;
     } else if at < words.len() {
-        shown(&words[..at], &words[at..]);
+        shown(to, &words[..at], &words[at..])?;
     } else {
-        say::text(words);
-        say::text(b"\n");
+        say::text(to, words)?;
+        say::text(to, b"\n")?;
     }
+    Ok(())
 }
 
 // All lines.
-pub fn table(input: &[u8]) {
+pub fn table(to: Stdout, input: &[u8]) -> io::Result<()> {
     let mut from = 0;
     while from < input.len() {
         let end = find(input, from, b'\n');
-        line(&input[from..end]);
+        line(to, &input[from..end])?;
         if end == input.len() {
-            return;
+            return Ok(());
         }
         from = end + 1;
     }
+    Ok(())
 }
 
 // A position at the end, past it, and the largest there is.
-pub fn positions() {
+pub fn positions(to: Stdout) -> io::Result<()> {
     let bytes = b"\x01\x00\x00\x00\x07\x01\x00\x00\x00\x07\x00";
-    say::reading(b"at position 0", read(bytes, 0));
-    say::reading(b"at the end", read(bytes, 11));
-    say::reading(b"past the end", read(bytes, 12));
+    say::reading(to, b"at position 0", read(bytes, 0))?;
+    say::reading(to, b"at the end", read(bytes, 11))?;
+    say::reading(to, b"past the end", read(bytes, 12))?;
     say::reading(
+        to,
         b"at the largest position",
         read(bytes, 18446744073709551615),
-    );
+    )?;
     say::reading(
+        to,
         b"from position 2",
         read(b"\xff\xff\x01\x00\x00\x00\x07\x01\x00\x00\x00\x07\x00", 2),
-    );
+    )
 }

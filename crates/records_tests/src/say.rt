@@ -1,150 +1,114 @@
 // One printed line for each case: its name, and the answer that it got.
 use histories::Kind;
-use libc::STDOUT_FILENO;
 use records::{Reading, Sight, Writing};
 use serials::{Finding, Listed};
 use sets::{Place, PlaceSet};
+use std::io::{self, Stdout};
 
-pub fn text(words: &[u8]) {
-    io::write_all(STDOUT_FILENO, words);
+pub fn text(to: Stdout, words: &[u8]) -> io::Result<()> {
+    to.write_all(words)
 }
 
-pub fn number(n: usize) {
-    io::print_decimal(STDOUT_FILENO, n as u64);
+pub fn number(to: Stdout, n: usize) -> io::Result<()> {
+    to.print(n)
 }
 
-fn title(name: &[u8]) {
-    text(name);
-    text(b": ");
+fn title(to: Stdout, name: &[u8]) -> io::Result<()> {
+    text(to, name)?;
+    text(to, b": ")
 }
 
-fn refused(fault: u8) {
-    text(b"refused ");
-    number(fault as usize);
-    text(b"\n");
+fn refused(to: Stdout, fault: u8) -> io::Result<()> {
+    println!(to; "refused {fault}")
 }
 
-fn kind(k: Kind) {
+fn kind(to: Stdout, k: Kind) -> io::Result<()> {
     match k {
-        Kind::Full => text(b"full"),
-        Kind::Short => text(b"short"),
+        Kind::Full => text(to, b"full"),
+        Kind::Short => text(to, b"short"),
     }
 }
 
 // The members of a set, in order.
-fn members(set: PlaceSet) {
+fn members(to: Stdout, set: PlaceSet) -> io::Result<()> {
     for p in 0..128 {
         if places::contains(set, Place(p)) {
-            text(b" ");
-            number(p);
+            print!(to; " {p}")?;
         }
     }
+    Ok(())
 }
 
-pub fn reading(name: &[u8], got: Reading) {
-    title(name);
+pub fn reading(to: Stdout, name: &[u8], got: Reading) -> io::Result<()> {
+    title(to, name)?;
     match got {
-        Reading::Refused(fault) => refused(fault),
+        Reading::Refused(fault) => refused(to, fault),
         Reading::Read(record) => {
-            let k = record.kind;
-            let own = record.own;
-            let mourned = record.mourned;
-            kind(k);
-            text(b", place ");
-            number(own.0);
-            text(b" of ");
-            number(record.count);
-            text(b", roster at ");
-            number(record.roster);
-            text(b", mourned");
-            members(mourned);
-            text(b", next ");
-            number(record.next);
-            text(b"\n");
+            kind(to, record.kind)?;
+            print!(to; ", place {} of {}", record.own.0, record.count)?;
+            print!(to; ", roster at {}, mourned", record.roster)?;
+            members(to, record.mourned)?;
+            println!(to; ", next {}", record.next)
         }
     }
-}
-
-fn byte(x: u8) {
-    text(b" ");
-    number(x as usize);
 }
 
 // The bytes of a slice, in order.
-fn bytes(part: &[u8]) {
-    let mut i = 0;
-    while i < part.len() {
-        byte(part[i]);
-        i += 1;
+fn bytes(to: Stdout, part: &[u8]) -> io::Result<()> {
+    for x in part {
+        print!(to; " {x}")?;
     }
-    text(b"\n");
+    text(to, b"\n")
 }
 
-pub fn sight(name: &[u8], got: Sight, roster: &[u8]) {
-    title(name);
+pub fn sight(to: Stdout, name: &[u8], got: Sight, roster: &[u8]) -> io::Result<()> {
+    title(to, name)?;
     match got {
-        Sight::Refused(fault) => {
-            text(b"refused ");
-            number(fault as usize);
-        }
+        Sight::Refused(fault) => print!(to; "refused {fault}")?,
         Sight::Seen(k, own) => {
-            kind(k);
-            text(b", own serial ");
-            number(own.0 as usize);
+            kind(to, k)?;
+            print!(to; ", own serial {}", own.0)?;
         }
     }
-    text(b", part");
-    bytes(roster);
+    text(to, b", part")?;
+    bytes(to, roster)
 }
 
-pub fn listed(name: &[u8], got: Listed) {
-    title(name);
+pub fn listed(to: Stdout, name: &[u8], got: Listed) -> io::Result<()> {
+    title(to, name)?;
     match got {
-        Listed::Refused(fault) => refused(fault),
-        Listed::Sound => text(b"sound\n"),
+        Listed::Refused(fault) => refused(to, fault),
+        Listed::Sound => text(to, b"sound\n"),
     }
 }
 
-pub fn found(name: &[u8], got: Finding) {
-    title(name);
+pub fn found(to: Stdout, name: &[u8], got: Finding) -> io::Result<()> {
+    title(to, name)?;
     match got {
-        Finding::Nothing => text(b"nothing\n"),
-        Finding::First(place) => {
-            text(b"place ");
-            number(place.0);
-            text(b"\n");
-        }
-        Finding::Second(place) => {
-            text(b"place ");
-            number(place.0);
-            text(b", its second serial\n");
-        }
+        Finding::Nothing => text(to, b"nothing\n"),
+        Finding::First(place) => println!(to; "place {}", place.0),
+        Finding::Second(place) => println!(to; "place {}, its second serial", place.0),
     }
 }
 
-pub fn writing(name: &[u8], got: Writing) {
-    title(name);
+pub fn writing(to: Stdout, name: &[u8], got: Writing) -> io::Result<()> {
+    title(to, name)?;
     match got {
-        Writing::Refused(fault) => refused(fault),
-        Writing::Next(next) => {
-            text(b"next ");
-            number(next);
-            text(b"\n");
-        }
+        Writing::Refused(fault) => refused(to, fault),
+        Writing::Next(next) => println!(to; "next {next}"),
     }
 }
 
-pub fn truth(name: &[u8], got: bool) {
-    title(name);
+pub fn truth(to: Stdout, name: &[u8], got: bool) -> io::Result<()> {
+    title(to, name)?;
     if got {
-        text(b"yes\n");
+        text(to, b"yes\n")
     } else {
-        text(b"no\n");
+        text(to, b"no\n")
     }
 }
 
-pub fn count(name: &[u8], got: usize) {
-    title(name);
-    number(got);
-    text(b"\n");
+pub fn count(to: Stdout, name: &[u8], got: usize) -> io::Result<()> {
+    title(to, name)?;
+    println!(to; "{got}")
 }

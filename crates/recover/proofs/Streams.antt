@@ -17,6 +17,7 @@ use Rattle.layouts.specs.declared.Reading.TheVariants.{Read}
 use Rattle.layouts.specs.Records.{reading_of, reading}
 use Rattle.layouts.proofs.Layouts.{head_back}
 use Rattle.layouts.proofs.Follows.{onto, then_onto, byte_onto, serial_four, serial_onto}
+use Rattle.std.proofs.Common.{Result, Ok, Err, IfOk}
 use Rattle.recover.specs.declared.window.Window.{Window}
 use Rattle.recover.specs.Windows.{ahead, Inside, Enough}
 use Rattle.recover.proofs.Windows.{length_ahead}
@@ -157,3 +158,9 @@ enough alias b more at h =
 pub window_enough : (w : Window) (b : List ℕ) → Inside w b → 1031 ≤ length (ahead w b) → Enough w b
 window_enough w b i h more =
     enough itself (take w.have b) more w.at (omega (arith, length-take-le w.have b i.1, length_ahead w b i.1))
+
+-- and so has one that the buffer was filled for, where the reading did not fail
+pub filled_enough : {E : Type 0} (r : Result Window E) (b : List ℕ) (n : ℕ) → 1031 ≤ n → IfOk r (λ w. Inside w b)
+    → IfOk r (λ w. w.ended ≡ false → length (ahead w b) ≡ n) → IfOk r (λ w. w.ended ≡ false → Enough w b)
+filled_enough (Ok w) b n h i l = λ f. window_enough w b i (omega (arith, l f))
+filled_enough (Err x) b n h i l = tt

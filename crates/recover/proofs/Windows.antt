@@ -9,6 +9,7 @@ use lib.Dec.{ltb}
 use lib.ListN.{length, take, drop, get_or, set, length-drop}
 use lib.Seq.{take-length, length-slice, length-take-le, drop_at, take-add, take-take, take-suc, take-suc-set, drop-set-lt, drop-drop, get_or-drop}
 use borrow.Author.Tests.{ltb-false}
+use Rattle.std.proofs.Common.{Result, Ok, Err, OnErr}
 use Rattle.recover.specs.declared.window.Window.{Window}
 use Rattle.recover.specs.Windows.{ahead, Inside, StartsWith}
 
@@ -58,6 +59,13 @@ refilled w b all more i l e h =
     let starts : take (length (ahead w b)) (take (n + more) all) ≡ ahead w b =
     ap (λ (k : ℕ). take k (take (n + more) all)) (length_ahead w b i.1) ∙ take-take n (n + more) all (omega arith) ∙ e ∙ sym (ahead_is w b i) in
     ((omega arith, omega arith), (starts, λ f. let k : length all ≤ n + more = ltb-false (n + more) (length all) f in length-take-le (n + more) all (omega arith) ∙ omega arith))
+
+-- where the reading behind it fails, a buffer still starts with what was ahead
+pub front_kept : {T E : Type 0} (r : Result T E) (w : Window) (b all : List ℕ) → Inside w b
+    → take (w.have - w.at) all ≡ take (w.have - w.at) (drop w.at b) → OnErr r (StartsWith (ahead w b) all)
+front_kept (Ok x) w b all i e = tt
+front_kept (Err x) w b all i e =
+    ap (λ (k : ℕ). take k all) (length_ahead w b i.1) ∙ e ∙ sym (ahead_is w b i)
 
 -- a window whose buffer stays as it is
 pub starts_itself : (s : List ℕ) → StartsWith s s

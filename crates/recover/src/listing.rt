@@ -1,5 +1,5 @@
 // What a recovery says when the reading is over.
-ghost use Rattle.std.specs.Prelude.{◌≡◌, ◌≤◌, ◌<◌, length, get_or};
+ghost use Rattle.std.specs.Prelude.{◌≡◌, ◌≤◌, ◌<◌, length, get_or, IfOk, OnErr};
 ghost use Rattle.calls.specs.Promises.{AskedByte};
 ghost use Rattle.calls.specs.declared.Asked as declared;
 ghost use Rattle.transcripts.specs.Lines.{place_line};
@@ -8,6 +8,7 @@ ghost use Rattle.recover.specs.Gathered.{answer_in, Said};
 use crate::output;
 use recovery::{Asked, Recovery};
 use serials::Serial;
+use std::io::{self, Stdout};
 
 // What asking says of a place, by its byte in the list.
 fn answer_of(byte: u8) -> Asked
@@ -24,27 +25,29 @@ fn answer_of(byte: u8) -> Asked
 
 // The line of a place: whatever answer its byte in the list is of, the line says that.
 fn list_place(
+    to: Stdout,
     out: &mut [u8],
     used: usize,
     serials: &[u32; 128],
     listed: &[u8; 128],
     p: usize,
-) -> usize
+) -> io::Result<usize>
     requires used_in_bounds { used ≤ length out.old }
     requires in_bounds { 64 ≤ length out.old }
     requires p_bound { p < 128 }
-    ensures { (a : declared.Asked) → AskedByte a (get_or listed.now p 0) → Said (place_line (get_or serials.now p 0) a) used out.old out.new result }
+    ensures ok { IfOk result (λ end. (a : declared.Asked) → AskedByte a (get_or listed.now p 0) → Said (place_line (get_or serials.now p 0) a) used out.old out.new end) }
+    ensures err { OnErr result (out.new ≡ out.old) }
 {
     let serial = Serial(serials[p]);
     let answer = answer_of(listed[p]);
-    output::say_place(out, used, serial, answer)
+    output::say_place(to, out, used, serial, answer)
 }
 
 // A line for each place.
-fn list_places(out: &mut [u8], used: usize, r: Recovery) -> usize
+fn list_places(to: Stdout, out: &mut [u8], used: usize, r: Recovery) -> io::Result<usize>
     requires used_in_bounds { used ≤ length out.old }
     requires in_bounds { 64 ≤ length out.old }
-    ensures { result ≤ length out.old }
+    ensures { IfOk result (λ end. end ≤ length out.old) }
 {
     let mut listed = [0u8; 128];
     recovery::list(r, &mut listed);
@@ -53,21 +56,21 @@ fn list_places(out: &mut [u8], used: usize, r: Recovery) -> usize
     let mut end = used;
     let mut p = 0;
     while p < count {
-        end = list_place(out, end, &serials, &listed, p);
+        end = list_place(to, out, end, &serials, &listed, p)?;
         p += 1;
     }
-    end
+    Ok(end)
 }
 
 // The lines of the places and of the whole, or that none was opened: a recovery of no places.
-pub(crate) fn list_all(out: &mut [u8], used: usize, r: Recovery) -> usize
+pub(crate) fn list_all(to: Stdout, out: &mut [u8], used: usize, r: Recovery) -> io::Result<usize>
     requires used_in_bounds { used ≤ length out.old }
     requires in_bounds { 64 ≤ length out.old }
-    ensures { result ≤ length out.old }
+    ensures { IfOk result (λ end. end ≤ length out.old) }
 {
     if r.count == 0 {
-        return output::say_none(out, used);
+        return output::say_none(to, out, used);
     }
-    let end = list_places(out, used, r);
-    output::say_whole(out, end, recovery::settled(r))
+    let end = list_places(to, out, used, r)?;
+    output::say_whole(to, out, end, recovery::settled(r))
 }

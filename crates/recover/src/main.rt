@@ -6,11 +6,14 @@ mod offering;
 mod output;
 mod window;
 
-fn main() {
+use std::io;
+
+fn main(rt: HostRuntime) -> io::Result<()> {
+    let to = rt.stdout();
     let mut input = [0u8; 65536];
     let mut out = [0u8; 16384];
-    let done = offering::offer_all(&mut input, &mut out);
+    let done = offering::offer_all(rt.stdin(), to, &mut input, &mut out)?;
     let recovery = done.recovery;
-    let used = listing::list_all(&mut out, done.used, recovery);
-    output::flush(&out, used);
+    let used = listing::list_all(to, &mut out, done.used, recovery)?;
+    output::flush(to, &out, used)
 }

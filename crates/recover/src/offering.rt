@@ -1,5 +1,5 @@
 // The records of the input, one after another: the first opens a recovery, and each is offered to it.
-ghost use Rattle.std.specs.Prelude.{◌≡◌, [], ◌≤◌, length, drop};
+ghost use Rattle.std.specs.Prelude.{◌≡◌, [], ◌≤◌, length, drop, IfOk};
 ghost use Rattle.serials.specs.Seconds.{itself};
 ghost use Rattle.layouts.specs.declared.Reading.TheVariants as reading;
 ghost use Rattle.layouts.specs.Records.{reading, serials};
@@ -9,6 +9,7 @@ use crate::{output, window};
 use answers::Reply;
 use records::{Reading, Record};
 use recovery::Recovery;
+use std::io::{self, Stdin, Stdout};
 
 // What the input leaves: its recovery, of no places where none was opened, and how much of the output is gathered.
 #[derive(Clone, Copy)]
@@ -79,10 +80,15 @@ fn is_taken(answer: Reply) -> bool {
 }
 
 // Reads record after record to the end of the input, or to the first that cannot be read, and says the reply to each.
-pub(crate) fn offer_all(input: &mut [u8], out: &mut [u8]) -> Finished
+pub(crate) fn offer_all(
+    from: Stdin,
+    to: Stdout,
+    input: &mut [u8],
+    out: &mut [u8],
+) -> io::Result<Finished>
     requires in_bounds { 1031 ≤ length input.old }
     requires in_bounds_2 { 64 ≤ length out.old }
-    ensures { result.used ≤ length out.old }
+    ensures { IfOk result (λ f. f.used ≤ length out.old) }
 {
     let mut recovery = unopened();
     let mut order = [0u8; 128];
@@ -90,7 +96,7 @@ pub(crate) fn offer_all(input: &mut [u8], out: &mut [u8]) -> Finished
     let mut used = 0;
     let mut number = 0u64;
     while number < u64::MAX {
-        w = window::ready(input, w);
+        w = window::ready(from, input, w)?;
         let at = w.at;
         let have = w.have;
         if at == have {
@@ -106,7 +112,7 @@ pub(crate) fn offer_all(input: &mut [u8], out: &mut [u8]) -> Finished
         );
         let Reading::Read(x) = got else {
             let reply = Reply::Refused(fault_of(got));
-            used = output::say_record(out, used, number, reply);
+            used = output::say_record(to, out, used, number, reply)?;
             break;
         };
         // one that cannot be read ends the reading, so the first that can is record 1
@@ -125,7 +131,7 @@ pub(crate) fn offer_all(input: &mut [u8], out: &mut [u8]) -> Finished
             &input[..have],
             x,
         );
-        used = output::say_record(out, used, number, answer);
+        used = output::say_record(to, out, used, number, answer)?;
         // a recovery changes hands only where it changes
         if is_taken(answer) {
             let offered = recovery::offer_read(recovery, &input[..have], x);
@@ -133,5 +139,5 @@ pub(crate) fn offer_all(input: &mut [u8], out: &mut [u8]) -> Finished
         }
         w = window::past(w, x.next);
     }
-    Finished { recovery, used }
+    Ok(Finished { recovery, used })
 }

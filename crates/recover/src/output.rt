@@ -1,33 +1,33 @@
 // The output, gathered in a lent buffer whose first `used` bytes are still to be written out.
-ghost use Rattle.std.specs.Prelude.{◌≡◌, ◌⊎◌, ◌+◌, ◌≤◌, length};
+ghost use Rattle.std.specs.Prelude.{◌≡◌, ◌⊎◌, ◌+◌, ◌≤◌, length, IfOk, OnErr};
 ghost use Rattle.transcripts.specs.Lines.{record_line, place_line, whole_line, none_line};
 ghost use Rattle.recover.specs.Gathered.{end_of, Said};
 
 use answers::Reply;
-use libc::STDOUT_FILENO;
 use records::Writing;
 use recovery::Asked;
 use serials::Serial;
+use std::io::{self, Stdout};
 
 // Writes out what is gathered.
-pub(crate) fn flush(out: &[u8], used: usize)
+pub(crate) fn flush(to: Stdout, out: &[u8], used: usize) -> io::Result<()>
     requires { used ≤ length out.now }
 {
-    io::write_all(STDOUT_FILENO, &out[..used]);
+    to.write_all(&out[..used])
 }
 
 // Where the next line goes: behind the used bytes, or at the front when these had to be written out to make room.
-fn room(out: &[u8], used: usize) -> usize
+fn room(to: Stdout, out: &[u8], used: usize) -> io::Result<usize>
     requires used_in_bounds { used ≤ length out.now }
     requires in_bounds { 64 ≤ length out.now }
-    ensures result_in_bounds { result + 64 ≤ length out.now }
-    ensures fact { (result ≡ used) ⊎ (result ≡ 0) }
+    ensures result_in_bounds { IfOk result (λ at. at + 64 ≤ length out.now) }
+    ensures fact { IfOk result (λ at. (at ≡ used) ⊎ (at ≡ 0)) }
 {
     if 64 <= out.len() - used {
-        return used;
+        return Ok(used);
     }
-    flush(out, used);
-    0
+    flush(to, out, used)?;
+    Ok(0)
 }
 
 // Where a line that was laid ends.
@@ -40,38 +40,54 @@ fn end_of(laid: Writing) -> usize
     }
 }
 
-pub(crate) fn say_record(out: &mut [u8], used: usize, number: u64, answer: Reply) -> usize
+pub(crate) fn say_record(
+    to: Stdout,
+    out: &mut [u8],
+    used: usize,
+    number: u64,
+    answer: Reply,
+) -> io::Result<usize>
     requires used_in_bounds { used ≤ length out.old }
     requires in_bounds { 64 ≤ length out.old }
-    ensures { Said (record_line number answer) used out.old out.new result }
+    ensures ok { IfOk result (λ end. Said (record_line number answer) used out.old out.new end) }
+    ensures err { OnErr result (out.new ≡ out.old) }
 {
-    let at = room(out, used);
-    end_of(lines::put_record(out, at, number, answer))
+    let at = room(to, out, used)?;
+    Ok(end_of(lines::put_record(out, at, number, answer)))
 }
 
-pub(crate) fn say_place(out: &mut [u8], used: usize, serial: Serial, answer: Asked) -> usize
+pub(crate) fn say_place(
+    to: Stdout,
+    out: &mut [u8],
+    used: usize,
+    serial: Serial,
+    answer: Asked,
+) -> io::Result<usize>
     requires used_in_bounds { used ≤ length out.old }
     requires in_bounds { 64 ≤ length out.old }
-    ensures { Said (place_line serial.0 answer) used out.old out.new result }
+    ensures ok { IfOk result (λ end. Said (place_line serial.0 answer) used out.old out.new end) }
+    ensures err { OnErr result (out.new ≡ out.old) }
 {
-    let at = room(out, used);
-    end_of(lines::put_place(out, at, serial, answer))
+    let at = room(to, out, used)?;
+    Ok(end_of(lines::put_place(out, at, serial, answer)))
 }
 
-pub(crate) fn say_whole(out: &mut [u8], used: usize, settled: bool) -> usize
+pub(crate) fn say_whole(to: Stdout, out: &mut [u8], used: usize, settled: bool) -> io::Result<usize>
     requires used_in_bounds { used ≤ length out.old }
     requires in_bounds { 64 ≤ length out.old }
-    ensures { Said (whole_line settled) used out.old out.new result }
+    ensures ok { IfOk result (λ end. Said (whole_line settled) used out.old out.new end) }
+    ensures err { OnErr result (out.new ≡ out.old) }
 {
-    let at = room(out, used);
-    end_of(lines::put_whole(out, at, settled))
+    let at = room(to, out, used)?;
+    Ok(end_of(lines::put_whole(out, at, settled)))
 }
 
-pub(crate) fn say_none(out: &mut [u8], used: usize) -> usize
+pub(crate) fn say_none(to: Stdout, out: &mut [u8], used: usize) -> io::Result<usize>
     requires used_in_bounds { used ≤ length out.old }
     requires in_bounds { 64 ≤ length out.old }
-    ensures { Said none_line used out.old out.new result }
+    ensures ok { IfOk result (λ end. Said none_line used out.old out.new end) }
+    ensures err { OnErr result (out.new ≡ out.old) }
 {
-    let at = room(out, used);
-    end_of(lines::put_none(out, at))
+    let at = room(to, out, used)?;
+    Ok(end_of(lines::put_none(out, at)))
 }

@@ -1,0 +1,12 @@
+-- `places_tests::tally` meets its contract: what was counted and what is left are together the set's count. Assumes nothing.
+use mathlib.Core.Path.{◌≡◌}
+use Prim.Native.Nat.{◌+◌}
+use Rattle.sets.specs.Sets.{count}
+use Rattle.sets.specs.PlaceSets.{has}
+use Rattle.places_tests.proofs.tally.Given as goal
+
+abbrev pub invariant-loop-p : goal.invariant-loop-p
+invariant-loop-p l = l.n + count 128 (has l.left) ≡ count 128 (has l.initial.left)
+
+abbrev pub decreases-loop-p : goal.decreases-loop-p
+decreases-loop-p l = count 128 (has l.left)
