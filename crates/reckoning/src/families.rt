@@ -4,6 +4,7 @@ ghost use Rattle.std.specs.Prelude.{◌<◌, ◌≤◌};
 use crate::cases::Case;
 use crate::tallies::Tally;
 use crate::{alike, buffers, cases, matrices, parts, piles, seconds, tallies};
+use std::io::{self, Stdout};
 
 // What is tried of a pile: its records in every order and the answers then, or only if they are of one kind, or in one order; or what
 // is left in every order; or records in second serials after it; or all that is shown and written in one order, with every matrix
@@ -97,46 +98,46 @@ fn roster(n: usize, trial: Trial, t: Tally) -> Tally {
 }
 
 // Rosters of one, two and three places.
-fn small_rosters(trial: Trial) -> Tally {
-    let t = roster(1, trial, tallies::none());
+fn small_rosters(to: Stdout, trial: Trial) -> Tally {
+    let t = roster(1, trial, tallies::none(to));
     let t = roster(2, trial, t);
     roster(3, trial, t)
 }
 
-fn of_four(trial: Trial) -> Tally {
-    roster(4, trial, tallies::none())
+fn of_four(to: Stdout, trial: Trial) -> Tally {
+    roster(4, trial, tallies::none(to))
 }
 
-pub fn of_small_rosters() {
+pub fn of_small_rosters(to: Stdout) -> io::Result<()> {
     tallies::report(
         b"every pile of 1 to 3 places of every mix of kinds in every order",
-        small_rosters(Trial::Orders),
-    );
+        small_rosters(to, Trial::Orders),
+    )?;
     tallies::report(
         b"every acceptable pile of 1 to 3 places of every mix of kinds in every order, recoveries compared",
-        small_rosters(Trial::Alike),
-    );
+        small_rosters(to, Trial::Alike),
+    )?;
     tallies::report(
         b"every pile of 1 to 3 places of every mix of kinds, shown, written and checked",
-        small_rosters(Trial::Histories),
-    );
+        small_rosters(to, Trial::Histories),
+    )?;
     tallies::report(
         b"every pile of 1 to 3 places of every mix of kinds, and after it every record of both kinds in every mix of first and second serials",
-        small_rosters(Trial::Seconds),
-    );
+        small_rosters(to, Trial::Seconds),
+    )
 }
 
-pub fn of_four_places() {
+pub fn of_four_places(to: Stdout) -> io::Result<()> {
     tallies::report(
         b"every pile of 4 places of one kind in every order",
-        of_four(Trial::OneKind),
-    );
+        of_four(to, Trial::OneKind),
+    )?;
     tallies::report(
         b"every pile of 4 places of every mix of kinds in one order",
-        of_four(Trial::OneOrder),
-    );
+        of_four(to, Trial::OneOrder),
+    )?;
     tallies::report(
         b"every pile of 4 places of every mix of kinds, shown, written and checked",
-        of_four(Trial::Sample),
-    );
+        of_four(to, Trial::Sample),
+    )
 }

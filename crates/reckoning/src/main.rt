@@ -30,14 +30,20 @@ mod tallies;
 mod told;
 mod trips;
 
-fn main() {
-    families::of_small_rosters();
-    plays::all();
-    let t = group::cases(tallies::none());
-    tallies::report(b"what a group and a caller meet", caller::cases(t));
-    tallies::report(b"counts and serials", counts::cases(tallies::none()));
-    tallies::report(b"board swaps, case by case", boards::cases(tallies::none()));
-    tallies::report(b"fetches, case by case", trips::cases(tallies::none()));
-    givings::all();
-    families::of_four_places();
+use std::io;
+
+fn main(rt: HostRuntime) -> io::Result<()> {
+    let to = rt.stdout();
+    families::of_small_rosters(to)?;
+    plays::all(to)?;
+    let t = group::cases(tallies::none(to));
+    tallies::report(b"what a group and a caller meet", caller::cases(t))?;
+    tallies::report(b"counts and serials", counts::cases(tallies::none(to)))?;
+    tallies::report(
+        b"board swaps, case by case",
+        boards::cases(tallies::none(to)),
+    )?;
+    tallies::report(b"fetches, case by case", trips::cases(tallies::none(to)))?;
+    givings::all(to)?;
+    families::of_four_places(to)
 }

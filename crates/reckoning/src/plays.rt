@@ -5,6 +5,7 @@ use crate::matrices::Pile;
 use crate::outcomes::{OPEN, SETTLED};
 use crate::tallies::Tally;
 use crate::{alike, cases, matrices, outcomes, parts, piles, tallies};
+use std::io::{self, Stdout};
 
 // What the table has where no history fits.
 const UNFIT: u8 = 255;
@@ -157,12 +158,12 @@ fn roster(n: usize, t: Tally) -> Tally {
 }
 
 // Rosters of one, two and three places.
-pub fn all() {
-    let t = roster(1, tallies::none());
+pub fn all(to: Stdout) -> io::Result<()> {
+    let t = roster(1, tallies::none(to));
     let t = roster(2, t);
     let t = roster(3, t);
     tallies::report(
         b"every acceptable pile of 1 to 3 places of every mix of kinds, and the game of fetches played out from it",
         t,
-    );
+    )
 }

@@ -4,6 +4,7 @@ use crate::{alike, laid, outcomes, parts, say, stored, tallies};
 use recovery::Recovery;
 use serials::Serial;
 use sets::Place;
+use std::io::{self, Stdout};
 
 // The kind is that of the records that are offered and written from here on.
 #[derive(Clone, Copy)]
@@ -15,23 +16,26 @@ pub struct Run {
     pub tally: Tally,
 }
 
+fn say_held(
+    to: Stdout,
+    g: Run,
+    call: &[u8],
+    a: u64,
+    b: u64,
+    expected: u64,
+    came: u64,
+) -> io::Result<()> {
+    print!(to; "case {}, roster of {}, kind {}, ", g.case, g.n, g.kind)?;
+    say::text(to, call)?;
+    print!(to; " {a}:{b}")?;
+    tallies::say_both(to, expected, came)
+}
+
 // One outcome of a call with two numbers that say which it is.
 fn held(g: Run, call: &[u8], a: u64, b: u64, expected: u64, came: u64) -> Tally {
     let t = g.tally;
     if tallies::is_first(t, expected, came) {
-        say::text(b"case ");
-        say::number(g.case);
-        say::text(b", roster of ");
-        say::number(g.n as u64);
-        say::text(b", kind ");
-        say::number(g.kind as u64);
-        say::text(b", ");
-        say::text(call);
-        say::text(b" ");
-        say::number(a);
-        say::text(b":");
-        say::number(b);
-        tallies::say_both(expected, came);
+        let _ = say_held(t.to, g, call, a, b, expected, came);
     }
     tallies::counted(t, expected, came)
 }

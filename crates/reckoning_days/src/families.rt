@@ -1,13 +1,14 @@
 // The lists, one after another.
 ghost use Rattle.std.specs.Prelude.{◌<◌, ◌≤◌};
 
-use crate::lists::Case;
+use crate::event_lists::Case;
 use crate::pairs::Pair;
 use crate::plain::Plain;
 use crate::tallies::Tally;
-use crate::{lists, pairs, parts, plain, returns, stored, tallies};
+use crate::{event_lists, pairs, parts, plain, returns, stored, tallies};
 use days::Day;
 use recovery::Recovery;
+use std::io::{self, Stdout};
 
 // Whether a list ends at its first refusal, or goes on after it.
 #[derive(Clone, Copy)]
@@ -39,7 +40,7 @@ fn try_list(d: Day, c: Case, trial: Trial, t: Tally) -> Tally {
 fn of_length(d: Day, kind: u8, n: usize, length: usize, trial: Trial, tally: Tally) -> Tally {
     let mut t = tally;
     let mut list = 0u64;
-    while list < lists::lists(n, length) {
+    while list < event_lists::lists(n, length) {
         let c = Case {
             kind,
             n,
@@ -66,28 +67,28 @@ fn shorter(kind: u8, n: usize, than: usize, trial: Trial, tally: Tally) -> Tally
     t
 }
 
-fn both_kinds(n: usize, than: usize, trial: Trial) -> Tally {
-    let t = shorter(1, n, than, trial, tallies::none());
+fn both_kinds(to: Stdout, n: usize, than: usize, trial: Trial) -> Tally {
+    let t = shorter(1, n, than, trial, tallies::none(to));
     shorter(2, n, than, trial, t)
 }
 
-pub fn of_lists() {
+pub fn of_lists(to: Stdout) -> io::Result<()> {
     tallies::report(
         b"two controllers, every list of up to 5 events",
-        both_kinds(2, 6, Trial::Played),
-    );
+        both_kinds(to, 2, 6, Trial::Played),
+    )?;
     tallies::report(
         b"two controllers, every event of lists of up to 4 by itself",
-        both_kinds(2, 5, Trial::Happened),
-    );
+        both_kinds(to, 2, 5, Trial::Happened),
+    )?;
     tallies::report(
         b"three controllers, every list of up to 5 events",
-        both_kinds(3, 6, Trial::Played),
-    );
+        both_kinds(to, 3, 6, Trial::Played),
+    )?;
     tallies::report(
         b"three controllers, every event of lists of up to 4 by itself",
-        both_kinds(3, 5, Trial::Happened),
-    );
+        both_kinds(to, 3, 5, Trial::Happened),
+    )
 }
 
 // How far the next list is: those that begin with the same events up to a refused one are passed over.
@@ -97,7 +98,7 @@ fn stride(c: Case, d: Plain) -> u64
     if d.refusal == 0 {
         return 1;
     }
-    lists::alike(c, d.count as usize)
+    event_lists::alike(c, d.count as usize)
 }
 
 // The records of every place, and where all have stopped, all of them brought back.
@@ -114,7 +115,7 @@ fn finish(c: Case, g: Pair, r: Recovery) -> Tally {
 fn allowed(d: Day, r: Recovery, kind: u8, n: usize, length: usize, tally: Tally) -> Tally {
     let mut t = tally;
     let mut list = 0u64;
-    while list < lists::lists(n, length) {
+    while list < event_lists::lists(n, length) {
         let c = Case {
             kind,
             n,
@@ -144,17 +145,17 @@ fn allowed_up_to(kind: u8, n: usize, tally: Tally) -> Tally {
     t
 }
 
-pub fn of_allowed() {
-    let t = allowed_up_to(1, 2, tallies::none());
+pub fn of_allowed(to: Stdout) -> io::Result<()> {
+    let t = allowed_up_to(1, 2, tallies::none(to));
     let t = allowed_up_to(2, 2, t);
     tallies::report(
         b"two controllers, every list of up to 7 allowed events, the records brought back in every order",
         t,
-    );
-    let t = allowed_up_to(1, 3, tallies::none());
+    )?;
+    let t = allowed_up_to(1, 3, tallies::none(to));
     let t = allowed_up_to(2, 3, t);
     tallies::report(
         b"three controllers, every list of up to 7 allowed events, the records brought back in every order",
         t,
-    );
+    )
 }

@@ -3,8 +3,8 @@
 // roster's length, the events in order as KIND:PLACE:OTHER, what was looked at, and both outcomes.
 #![tactic(auto)]
 
+mod event_lists;
 mod families;
-mod lists;
 mod named;
 mod outcomes;
 mod pairs;
@@ -15,11 +15,14 @@ mod say;
 mod stored;
 mod tallies;
 
-fn main() {
-    families::of_lists();
-    families::of_allowed();
+use std::io;
+
+fn main(rt: HostRuntime) -> io::Result<()> {
+    let to = rt.stdout();
+    families::of_lists(to)?;
+    families::of_allowed(to)?;
     tallies::report(
         b"openings, and what a caller meets",
-        named::cases(tallies::none()),
-    );
+        named::cases(tallies::none(to)),
+    )
 }

@@ -4,6 +4,7 @@ use answers::Reply;
 use days::Opening;
 use records::Writing;
 use recovery::Asked;
+use std::io::{self, Stdout};
 
 pub const OPENED: u64 = 1000001;
 
@@ -18,15 +19,15 @@ pub const NOT_LAST: u64 = 1000005;
 pub const OPEN: u64 = 1000006;
 
 // An outcome in words, or as the number that it is.
-pub fn write(x: u64) {
+pub fn write(to: Stdout, x: u64) -> io::Result<()> {
     match x {
-        1000001 => say::text(b"opened"),
-        1000002 => say::text(b"taken"),
-        1000003 => say::text(b"repeated"),
-        1000004 => say::text(b"last"),
-        1000005 => say::text(b"not"),
-        1000006 => say::text(b"open"),
-        _ => say::number(x),
+        1000001 => say::text(to, b"opened"),
+        1000002 => say::text(to, b"taken"),
+        1000003 => say::text(to, b"repeated"),
+        1000004 => say::text(to, b"last"),
+        1000005 => say::text(to, b"not"),
+        1000006 => say::text(to, b"open"),
+        _ => say::number(to, x),
     }
 }
 

@@ -1,8 +1,8 @@
 // A day beside the second reckoning: a list played event by event, the refusal and the count held after each, and then every record.
-use crate::lists::{Case, Turn};
+use crate::event_lists::{Case, Turn};
 use crate::plain::Plain;
 use crate::tallies::Tally;
-use crate::{lists, outcomes, parts, plain, stored};
+use crate::{event_lists, outcomes, parts, plain, stored};
 use days::{Day, Event, Played};
 use sets::Place;
 
@@ -37,12 +37,12 @@ fn event(e: Turn) -> Event {
 
 // Event i of a list, after those before it.
 fn step(c: Case, g: Pair, i: usize) -> Pair {
-    let e = lists::event(c, i);
+    let e = event_lists::event(c, i);
     let old = g.played;
     let t = g.tally;
     let plain = plain::step(g.plain, e);
     let played = days::step(old, event(e));
-    let t = lists::held(
+    let t = event_lists::held(
         t,
         c,
         b"refusal at event",
@@ -50,7 +50,7 @@ fn step(c: Case, g: Pair, i: usize) -> Pair {
         plain.refusal as u64,
         played.refusal as u64,
     );
-    let tally = lists::held(t, c, b"count at event", i, plain.count, played.count as u64);
+    let tally = event_lists::held(t, c, b"count at event", i, plain.count, played.count as u64);
     Pair {
         played,
         plain,
@@ -72,7 +72,7 @@ pub fn play(d: Day, c: Case, tally: Tally) -> Pair {
 
 // Event i by itself: a refusal before it is passed over.
 fn happen(c: Case, g: Pair, i: usize) -> Pair {
-    let e = lists::event(c, i);
+    let e = event_lists::event(c, i);
     let old = g.played;
     let t = g.tally;
     let day = old.day;
@@ -80,7 +80,7 @@ fn happen(c: Case, g: Pair, i: usize) -> Pair {
     let got = days::happen(day, event(e));
     let refusal = got.refusal;
     let day = got.day;
-    let tally = lists::held(
+    let tally = event_lists::held(
         t,
         c,
         b"refusal by itself at event",
@@ -137,7 +137,7 @@ fn write(c: Case, d: Day, plain: Plain, t: Tally, place: usize) -> Tally {
     let mut out = [0xaau8; 64];
     let expected = record(&mut made, plain, place);
     let got = days::write(d, Place(place), &mut out, 20);
-    let t = lists::held(
+    let t = event_lists::held(
         t,
         c,
         b"write, place",
@@ -146,7 +146,7 @@ fn write(c: Case, d: Day, plain: Plain, t: Tally, place: usize) -> Tally {
         outcomes::writing(got),
     );
     let same = stored::has_only(&out, 20, parts::of_buffer(&made, length(expected)));
-    lists::held(t, c, b"written, place", place, 1, outcomes::truth(same))
+    event_lists::held(t, c, b"written, place", place, 1, outcomes::truth(same))
 }
 
 // The record of every place, and of one off the roster.

@@ -1,5 +1,5 @@
 // The second reckoning. A set of places is the sum of their bits; the row of place p is the four bits from 4 p on.
-use crate::lists::Turn;
+use crate::event_lists::Turn;
 use crate::outcomes;
 
 // A day of two or three controllers after some events: those who have stopped, whom each has heard, how many events were played, and the

@@ -1,11 +1,11 @@
 // The records of a day on which all have stopped, brought back in every order.
 ghost use Rattle.std.specs.Prelude.{◌≤◌};
 
-use crate::lists::Case;
+use crate::event_lists::Case;
 use crate::pairs::Pair;
 use crate::plain::Plain;
 use crate::tallies::Tally;
-use crate::{lists, outcomes, parts, plain};
+use crate::{event_lists, outcomes, parts, plain};
 use days::Day;
 use records::Writing;
 use recovery::{Offered, Recovery};
@@ -67,7 +67,7 @@ fn ask(c: Case, r: Recovery, d: Plain, t: Tally, place: usize, back: usize) -> T
     let got = recovery::ask(r, Place(place));
     let came = outcomes::asked(got);
     let expected = answer(d, place, came, back);
-    lists::held(t, c, b"answer, place", place, expected, came)
+    event_lists::held(t, c, b"answer, place", place, expected, came)
 }
 
 fn asks(c: Case, r: Recovery, d: Plain, tally: Tally, back: usize) -> Tally {
@@ -89,7 +89,7 @@ fn bring(c: Case, d: Day, plain: Plain, g: Back, order: usize, back: usize) -> B
     let got = offer(d, old, place);
     let reply = got.answer;
     let recovery = got.recovery;
-    let t = lists::held(
+    let t = event_lists::held(
         t,
         c,
         b"offer, place",
@@ -100,7 +100,7 @@ fn bring(c: Case, d: Day, plain: Plain, g: Back, order: usize, back: usize) -> B
     let got = offer(d, recovery, place);
     let reply = got.answer;
     let recovery = got.recovery;
-    let t = lists::held(
+    let t = event_lists::held(
         t,
         c,
         b"offer again, place",

@@ -1,10 +1,10 @@
 // What is printed.
-use libc::STDOUT_FILENO;
+use std::io::{self, Stdout};
 
-pub fn text(words: &[u8]) {
-    io::write_all(STDOUT_FILENO, words);
+pub fn text(to: Stdout, words: &[u8]) -> io::Result<()> {
+    to.write_all(words)
 }
 
-pub fn number(n: u64) {
-    io::print_decimal(STDOUT_FILENO, n);
+pub fn number(to: Stdout, n: u64) -> io::Result<()> {
+    to.print(n)
 }
