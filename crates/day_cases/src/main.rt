@@ -17,6 +17,7 @@ use layouts::Writing;
 use recovery::Recovery;
 use scripts::List;
 use sets::Place;
+use std::io::{self, Stdout};
 use trials::{outcomes, parts, say};
 
 // A day, a recovery of its list, and whether serials are multiples of 65536.
@@ -27,10 +28,10 @@ struct Stage {
     wide: bool,
 }
 
-fn main() {
-    let mut input = io::large_buffer();
-    let n = io::read_full(0, &mut input);
-    lines(&input[..n]);
+fn main(rt: HostRuntime) -> io::Result<()> {
+    let mut input = [0u8; 65536];
+    let n = scripts::read_full(rt.stdin(), &mut input)?;
+    lines(rt.stdout(), &input[..n])
 }
 
 // A day whose opening was refused: it has no places.
@@ -59,12 +60,12 @@ fn unit(s: Stage, words: &[u8]) -> Stage {
 }
 
 // What an outcome says, behind its line.
-fn answer(got: u64) {
-    say::text(b" -> ");
-    outcomes::write(got);
+fn answer(to: Stdout, got: u64) -> io::Result<()> {
+    say::text(to, b" -> ")?;
+    outcomes::write(to, got)
 }
 
-fn open(s: Stage, words: &[u8]) -> Stage {
+fn open(to: Stdout, s: Stage, words: &[u8]) -> io::Result<Stage> {
     let head = scripts::numbers(scripts::section(words, 0));
     let mut list = [0u32; 300];
     let n = scripts::serials(scripts::section(words, 1), s.wide, &mut list);
@@ -72,24 +73,25 @@ fn open(s: Stage, words: &[u8]) -> Stage {
     let got = days::open(kind, parts::of_script(&list, n));
     let opening = got.answer;
     let day = got.day;
-    answer(outcomes::beginning(opening));
+    answer(to, outcomes::beginning(opening))?;
     let group = recovery::open(parts::of_script(&list, n));
     let recovery = group.recovery;
-    Stage {
+    Ok(Stage {
         day,
         recovery,
         wide: s.wide,
-    }
+    })
 }
 
 // How many events were played, and the refusal that ended them.
-fn told(got: Played) {
-    say::text(b" -> played ");
-    say::number(got.count as u64);
+fn told(to: Stdout, got: Played) -> io::Result<()> {
+    say::text(to, b" -> played ")?;
+    say::number(to, got.count as u64)?;
     if got.refusal != 0 {
-        say::text(b", refused ");
-        say::number(got.refusal as u64);
+        say::text(to, b", refused ")?;
+        return say::number(to, got.refusal as u64);
     }
+    Ok(())
 }
 
 // Event number k of a line: a stop of each of its places, or a hearing of each place behind the first.
@@ -111,7 +113,7 @@ fn event(kind: u8, said: List, k: usize) -> Event {
 }
 
 // The events of a line from number `from` on.
-fn events(s: Stage, kind: u8, said: List, from: usize) -> Stage {
+fn events(to: Stdout, s: Stage, kind: u8, said: List, from: usize) -> io::Result<Stage> {
     let old = s.day;
     let mut p = Played {
         count: 0,
@@ -124,13 +126,13 @@ fn events(s: Stage, kind: u8, said: List, from: usize) -> Stage {
             p = next;
         }
     }
-    told(p);
+    told(to, p)?;
     let day = p.day;
-    with(s, day)
+    Ok(with(s, day))
 }
 
 // One event of any kind, by itself.
-fn happen(s: Stage, said: List) -> Stage {
+fn happen(to: Stdout, s: Stage, said: List) -> io::Result<Stage> {
     let old = s.day;
     let e = Event {
         kind: (scripts::number(said, 0) % 256) as u8,
@@ -140,11 +142,11 @@ fn happen(s: Stage, said: List) -> Stage {
     let got = days::happen(old, e);
     let refusal = got.refusal;
     let day = got.day;
-    answer(refusal as u64);
-    with(s, day)
+    answer(to, refusal as u64)?;
+    Ok(with(s, day))
 }
 
-fn write(s: Stage, said: List) {
+fn write(to: Stdout, s: Stage, said: List) -> io::Result<()> {
     let day = s.day;
     let mut out = [0xaau8; 160];
     let room = scripts::number(said, 1) as usize;
@@ -154,9 +156,9 @@ fn write(s: Stage, said: List) {
         parts::lent(&mut out, room),
         scripts::number(said, 2) as usize,
     );
-    answer(outcomes::writing(got));
-    say::text(b",");
-    scripts::say_runs(&out);
+    answer(to, outcomes::writing(got))?;
+    say::text(to, b",")?;
+    scripts::say_runs(to, &out)
 }
 
 // Where a written record ends.
@@ -168,7 +170,7 @@ fn end_of(got: Writing) -> usize {
 }
 
 // The record of one place, as the day writes it, offered.
-fn bring_one(s: Stage, place: usize) -> Stage {
+fn bring_one(to: Stdout, s: Stage, place: usize) -> io::Result<Stage> {
     let day = s.day;
     let old = s.recovery;
     let mut out = [0u8; 1100];
@@ -176,75 +178,77 @@ fn bring_one(s: Stage, place: usize) -> Stage {
     let got = recovery::offer(old, parts::of_record(&out, end));
     let reply = got.answer;
     let recovery = got.recovery;
-    say::text(b" ");
-    outcomes::write(outcomes::reply(reply));
+    say::text(to, b" ")?;
+    outcomes::write(to, outcomes::reply(reply))?;
     let mut next = s;
     next.recovery = recovery;
-    next
+    Ok(next)
 }
 
-fn bring(start: Stage, said: List) -> Stage {
+fn bring(to: Stdout, start: Stage, said: List) -> io::Result<Stage> {
     let mut s = start;
-    say::text(b" ->");
+    say::text(to, b" ->")?;
     for k in 0usize..300 {
         if said.count <= k {
-            return s;
+            return Ok(s);
         }
-        let next = bring_one(s, scripts::number(said, k) as usize);
+        let next = bring_one(to, s, scripts::number(said, k) as usize)?;
         s = next;
     }
-    s
+    Ok(s)
 }
 
 // The answer for each place of the recovery.
-fn tell(r: Recovery) {
-    say::text(b" -> ");
+fn tell(to: Stdout, r: Recovery) -> io::Result<()> {
+    say::text(to, b" -> ")?;
     let mut p = 0;
     while p < r.count {
-        outcomes::say_letter(outcomes::asked(recovery::ask(r, Place(p))));
+        outcomes::say_letter(to, outcomes::asked(recovery::ask(r, Place(p))))?;
         p += 1;
     }
+    Ok(())
 }
 
 // A line, by its first letter; any other is a heading.
-fn call(s: Stage, words: &[u8]) -> Stage {
+fn call(to: Stdout, s: Stage, words: &[u8]) -> io::Result<Stage> {
     let said = scripts::numbers(scripts::section(words, 0));
     match scripts::byte(words, 0) {
-        b'u' => unit(s, words),
-        b'o' => open(s, words),
-        b's' => events(s, 1, said, 0),
-        b'h' => events(s, 2, said, 1),
-        b'e' => happen(s, said),
-        b'b' => bring(s, said),
+        b'u' => Ok(unit(s, words)),
+        b'o' => open(to, s, words),
+        b's' => events(to, s, 1, said, 0),
+        b'h' => events(to, s, 2, said, 1),
+        b'e' => happen(to, s, said),
+        b'b' => bring(to, s, said),
         b'w' => {
-            write(s, said);
-            s
+            write(to, s, said)?;
+            Ok(s)
         }
         b't' => {
             let recovery = s.recovery;
-            tell(recovery);
-            s
+            tell(to, recovery)?;
+            Ok(s)
         }
-        _ => s,
+        _ => Ok(s),
     }
 }
 
 // One line, and the day after it.
-fn line(s: Stage, words: &[u8]) -> Stage {
-    say::text(words);
-    let next = call(s, words);
-    say::text(b"\n");
-    next
+fn line(to: Stdout, s: Stage, words: &[u8]) -> io::Result<Stage> {
+    say::text(to, words)?;
+    let next = call(to, s, words)?;
+    say::text(to, b"\n")?;
+    Ok(next)
 }
 
-fn lines(input: &[u8]) {
+fn lines(to: Stdout, input: &[u8]) -> io::Result<()> {
     let mut s = unopened();
     let mut from = 0;
     while from < input.len() {
         let n = scripts::up_to(input, from, b'\n');
-        let next = line(s, scripts::part(input, from, n));
+        let next = line(to, s, scripts::part(input, from, n))?;
         s = next;
         from += n;
         from += 1;
     }
+    Ok(())
 }

@@ -2,6 +2,7 @@
 // one more where that is short; a set is the sum of its bits. The base for n places is thus 2 to the power n + 1, plus 1.
 ghost use Rattle.std.specs.Prelude.{◌≤◌, ◌<◌};
 
+use std::io::{self, Stdout};
 use trials::tallies::Tally;
 use trials::{say, tallies};
 
@@ -140,42 +141,45 @@ pub fn turn(c: Case, i: usize) -> usize {
 }
 
 // A record as its kind, its place and its mourned set.
-pub fn say_parts(kind: u8, place: usize, mourned: u32) {
-    say::text(b" ");
-    say::number(kind as u64);
-    say::text(b":");
-    say::number(place as u64);
-    say::text(b":");
-    say::number(mourned as u64);
+pub fn say_parts(to: Stdout, kind: u8, place: usize, mourned: u32) -> io::Result<()> {
+    print!(to; " {kind}:{place}:{mourned}")
 }
 
 // The record of a place, nothing where it is absent.
-fn say_record(c: Case, place: usize) {
+fn say_record(to: Stdout, c: Case, place: usize) -> io::Result<()> {
     if is_absent(c, place) {
-        return;
+        return Ok(());
     }
-    say_parts(kind(c, place), place, mourned(c, place));
+    say_parts(to, kind(c, place), place, mourned(c, place))
 }
 
-pub fn say_case(c: Case) {
-    say::text(b"roster of ");
-    say::number(c.n as u64);
-    say::text(b", records");
-    say_record(c, turn(c, 0));
-    say_record(c, turn(c, 1));
-    say_record(c, turn(c, 2));
-    say_record(c, turn(c, 3));
+pub fn say_case(to: Stdout, c: Case) -> io::Result<()> {
+    print!(to; "roster of {}, records", c.n)?;
+    say_record(to, c, turn(c, 0))?;
+    say_record(to, c, turn(c, 1))?;
+    say_record(to, c, turn(c, 2))?;
+    say_record(to, c, turn(c, 3))
+}
+
+fn say_held(
+    to: Stdout,
+    c: Case,
+    call: &[u8],
+    about: u64,
+    expected: u64,
+    came: u64,
+) -> io::Result<()> {
+    say_case(to, c)?;
+    say::text(to, b", ")?;
+    say::text(to, call)?;
+    print!(to; " {about}")?;
+    tallies::say_both(to, expected, came)
 }
 
 // One outcome of a call about something (a place, a matrix) after these records.
 pub fn held(t: Tally, c: Case, call: &[u8], about: u64, expected: u64, came: u64) -> Tally {
     if tallies::is_first(t, expected, came) {
-        say_case(c);
-        say::text(b", ");
-        say::text(call);
-        say::text(b" ");
-        say::number(about);
-        tallies::say_both(expected, came);
+        let _ = say_held(t.to, c, call, about, expected, came);
     }
     tallies::counted(t, expected, came)
 }

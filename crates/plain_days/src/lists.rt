@@ -2,6 +2,7 @@
 // roster, and one event of another kind. A list is a number in the alphabet's size, the first event its highest digit.
 ghost use Rattle.std.specs.Prelude.{◌<◌, ◌≤◌};
 
+use std::io::{self, Stdout};
 use trials::tallies::Tally;
 use trials::{say, tallies};
 
@@ -123,41 +124,43 @@ pub fn event(c: Case, i: usize) -> Turn {
     among_three((digits % 21) as u8)
 }
 
-fn say_event(e: Turn) {
-    say::text(b" ");
-    say::number(e.kind as u64);
-    say::text(b":");
-    say::number(e.p as u64);
-    say::text(b":");
-    say::number(e.q as u64);
+fn say_event(to: Stdout, e: Turn) -> io::Result<()> {
+    print!(to; " {}:{}:{}", e.kind, e.p, e.q)
 }
 
-fn say_events(c: Case) {
+fn say_events(to: Stdout, c: Case) -> io::Result<()> {
     let mut i = 0;
     while i < c.length {
-        say_event(event(c, i));
+        say_event(to, event(c, i))?;
         i += 1;
     }
+    Ok(())
 }
 
-fn say_case(c: Case) {
-    say::text(b"kind ");
-    say::number(c.kind as u64);
-    say::text(b" of ");
-    say::number(c.n as u64);
-    say::text(b", events");
-    say_events(c);
+fn say_case(to: Stdout, c: Case) -> io::Result<()> {
+    print!(to; "kind {} of {}, events", c.kind, c.n)?;
+    say_events(to, c)
+}
+
+fn say_held(
+    to: Stdout,
+    c: Case,
+    what: &[u8],
+    about: usize,
+    expected: u64,
+    came: u64,
+) -> io::Result<()> {
+    say_case(to, c)?;
+    say::text(to, b", ")?;
+    say::text(to, what)?;
+    print!(to; " {about}")?;
+    tallies::say_both(to, expected, came)
 }
 
 // One outcome about something (an event's position, a place) in this list.
 pub fn held(t: Tally, c: Case, what: &[u8], about: usize, expected: u64, came: u64) -> Tally {
     if tallies::is_first(t, expected, came) {
-        say_case(c);
-        say::text(b", ");
-        say::text(what);
-        say::text(b" ");
-        say::number(about as u64);
-        tallies::say_both(expected, came);
+        let _ = say_held(t.to, c, what, about, expected, came);
     }
     tallies::counted(t, expected, came)
 }

@@ -5,6 +5,8 @@
 
 mod plays;
 
-fn main() {
-    plays::all();
+use std::io;
+
+fn main(rt: HostRuntime) -> io::Result<()> {
+    plays::all(rt.stdout())
 }

@@ -3,6 +3,7 @@
 use matrices::cases::Case;
 use matrices::{Pile, cases};
 use piles::alike;
+use std::io::{self, Stdout};
 use trials::outcomes::{OPEN, SETTLED};
 use trials::tallies::Tally;
 use trials::{outcomes, parts, tallies};
@@ -158,12 +159,12 @@ fn roster(n: usize, t: Tally) -> Tally {
 }
 
 // Rosters of one, two and three places.
-pub fn all() {
-    let t = roster(1, tallies::none());
+pub fn all(to: Stdout) -> io::Result<()> {
+    let t = roster(1, tallies::none(to));
     let t = roster(2, t);
     let t = roster(3, t);
     tallies::report(
         b"every acceptable pile of 1 to 3 places of every mix of kinds, and the game of fetches played out from it",
         t,
-    );
+    )
 }

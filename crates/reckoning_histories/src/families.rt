@@ -5,6 +5,7 @@ use crate::buffers;
 use matrices::cases;
 use matrices::cases::Case;
 use piles::alike;
+use std::io::{self, Stdout};
 use trials::tallies::Tally;
 use trials::{parts, tallies};
 
@@ -75,26 +76,26 @@ fn roster(n: usize, trial: Trial, t: Tally) -> Tally {
 }
 
 // Rosters of one, two and three places.
-fn small_rosters(trial: Trial) -> Tally {
-    let t = roster(1, trial, tallies::none());
+fn small_rosters(to: Stdout, trial: Trial) -> Tally {
+    let t = roster(1, trial, tallies::none(to));
     let t = roster(2, trial, t);
     roster(3, trial, t)
 }
 
-pub fn of_small_rosters() {
+pub fn of_small_rosters(to: Stdout) -> io::Result<()> {
     tallies::report(
         b"every acceptable pile of 1 to 3 places of every mix of kinds in every order, recoveries compared",
-        small_rosters(Trial::Alike),
-    );
+        small_rosters(to, Trial::Alike),
+    )?;
     tallies::report(
         b"every pile of 1 to 3 places of every mix of kinds, shown, written and checked",
-        small_rosters(Trial::Histories),
-    );
+        small_rosters(to, Trial::Histories),
+    )
 }
 
-pub fn of_four_places() {
+pub fn of_four_places(to: Stdout) -> io::Result<()> {
     tallies::report(
         b"every pile of 4 places of every mix of kinds, shown, written and checked",
-        roster(4, Trial::Sample, tallies::none()),
-    );
+        roster(4, Trial::Sample, tallies::none(to)),
+    )
 }

@@ -6,7 +6,10 @@
 mod buffers;
 mod families;
 
-fn main() {
-    families::of_small_rosters();
-    families::of_four_places();
+use std::io;
+
+fn main(rt: HostRuntime) -> io::Result<()> {
+    let to = rt.stdout();
+    families::of_small_rosters(to)?;
+    families::of_four_places(to)
 }

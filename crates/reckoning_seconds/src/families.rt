@@ -2,6 +2,7 @@
 use crate::seconds;
 use matrices::cases;
 use matrices::cases::Case;
+use std::io::{self, Stdout};
 use trials::tallies::Tally;
 use trials::{parts, tallies};
 
@@ -29,12 +30,12 @@ fn roster(n: usize, t: Tally) -> Tally {
 }
 
 // Rosters of one, two and three places.
-pub fn of_small_rosters() {
-    let t = roster(1, tallies::none());
+pub fn of_small_rosters(to: Stdout) -> io::Result<()> {
+    let t = roster(1, tallies::none(to));
     let t = roster(2, t);
     let t = roster(3, t);
     tallies::report(
         b"every pile of 1 to 3 places of every mix of kinds, and after it every record of both kinds in every mix of first and second serials",
         t,
-    );
+    )
 }

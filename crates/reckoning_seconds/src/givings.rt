@@ -3,6 +3,7 @@ use piles::alike;
 use recovery::Recovery;
 use serials::Serial;
 use sets::Place;
+use std::io::{self, Stdout};
 use swaps::cases::Case;
 use swaps::{Boards, cases};
 use trials::tallies::Tally;
@@ -126,12 +127,12 @@ fn of_length(n: usize, tally: Tally) -> Tally {
     t
 }
 
-pub fn all() {
-    let t = of_length(0, tallies::none());
+pub fn all(to: Stdout) -> io::Result<()> {
+    let t = of_length(0, tallies::none(to));
     let t = of_length(1, t);
     let t = of_length(2, t);
     tallies::report(
         b"every list of up to 3 givings to 2 places, and after it every serial found and every record of both kinds offered",
         of_length(3, t),
-    );
+    )
 }

@@ -8,7 +8,10 @@ mod families;
 mod givings;
 mod seconds;
 
-fn main() {
-    families::of_small_rosters();
-    givings::all();
+use std::io;
+
+fn main(rt: HostRuntime) -> io::Result<()> {
+    let to = rt.stdout();
+    families::of_small_rosters(to)?;
+    givings::all(to)
 }

@@ -6,6 +6,7 @@ use piles::alike;
 use recovery::{Offered, Recovery};
 use serials::Serial;
 use sets::Place;
+use std::io::{self, Stdout};
 use trials::tallies::Tally;
 use trials::{outcomes, parts, say, stored, tallies, written};
 
@@ -26,18 +27,27 @@ struct Given {
     tally: Tally,
 }
 
+fn say_held(
+    to: Stdout,
+    c: Case,
+    x: Mixed,
+    call: &[u8],
+    expected: u64,
+    came: u64,
+) -> io::Result<()> {
+    cases::say_case(to, c)?;
+    say::text(to, b", ")?;
+    say::text(to, call)?;
+    cases::say_parts(to, x.kind, x.place, x.mourned)?;
+    let own = outcomes::truth(x.second);
+    print!(to; ", in second serials own {own} and mourned {}", x.swapped)?;
+    tallies::say_both(to, expected, came)
+}
+
 // One outcome of a record offered after a pile and its givings.
 fn held(t: Tally, c: Case, x: Mixed, call: &[u8], expected: u64, came: u64) -> Tally {
     if tallies::is_first(t, expected, came) {
-        cases::say_case(c);
-        say::text(b", ");
-        say::text(call);
-        cases::say_parts(x.kind, x.place, x.mourned);
-        say::text(b", in second serials own ");
-        say::number(outcomes::truth(x.second));
-        say::text(b" and mourned ");
-        say::number(x.swapped as u64);
-        tallies::say_both(expected, came);
+        let _ = say_held(t.to, c, x, call, expected, came);
     }
     tallies::counted(t, expected, came)
 }

@@ -2,23 +2,27 @@
 use crate::stage::Stage;
 use crate::{say as told, stage};
 use serials::{Listed, Serial};
+use std::io::{self, Stdout};
 use trials::{outcomes, parts, say};
 
 // What an opening with them meets, and the first fault along them.
-pub fn numbers(s: Stage, words: &[u8]) {
+pub fn numbers(to: Stdout, s: Stage, words: &[u8]) -> io::Result<()> {
     let list = stage::listed(s, words, 0);
     let of = list.of;
-    say::text(b" -> ");
+    say::text(to, b" -> ")?;
     match rosters::check(parts::of_script(&of, list.count)) {
-        Listed::Refused(fault) => told::refused(fault),
-        Listed::Sound => say::text(b"sound"),
+        Listed::Refused(fault) => told::refused(to, fault)?,
+        Listed::Sound => say::text(to, b"sound")?,
     }
-    say::text(b", first fault ");
-    say::number(rosters::first_fault(parts::of_script(&of, list.count)) as u64);
+    say::text(to, b", first fault ")?;
+    say::number(
+        to,
+        rosters::first_fault(parts::of_script(&of, list.count)) as u64,
+    )
 }
 
 // Where a serial stands on a roster, looked for from a place on first.
-pub fn query(s: Stage, words: &[u8]) {
+pub fn query(to: Stdout, s: Stage, words: &[u8]) -> io::Result<()> {
     let said = scripts::numbers(scripts::section(words, 0));
     let roster = stage::listed(s, words, 1);
     let of = roster.of;
@@ -33,12 +37,12 @@ pub fn query(s: Stage, words: &[u8]) {
         parts::of_script(&two, seconds.count),
         Serial(scripts::serial(scripts::number(said, 0), s.wide)),
     );
-    say::text(b" -> ");
-    outcomes::write(outcomes::found(got));
+    say::text(to, b" -> ")?;
+    outcomes::write(to, outcomes::found(got))
 }
 
 // Whether a roster in the bytes is a list.
-pub fn is(s: Stage, words: &[u8]) {
+pub fn is(to: Stdout, s: Stage, words: &[u8]) -> io::Result<()> {
     let said = scripts::numbers(scripts::section(words, 0));
     let list = stage::listed(s, words, 1);
     let of = list.of;
@@ -49,8 +53,8 @@ pub fn is(s: Stage, words: &[u8]) {
         scripts::number(said, 1) as usize,
         parts::of_script(&of, list.count),
     );
-    say::text(b" -> ");
-    told::truth(got);
+    say::text(to, b" -> ")?;
+    told::truth(to, got)
 }
 
 // How many of a list are not 5.
@@ -65,13 +69,12 @@ fn changed(list: &[u32; 128]) -> u64 {
     n
 }
 
-fn serial(x: u32) {
-    say::text(b" ");
-    say::number(x as u64);
+fn serial(to: Stdout, x: u32) -> io::Result<()> {
+    print!(to; " {x}")
 }
 
 // A roster in the bytes copied into a list of fives: its first four serials, and how many changed.
-pub fn keep(s: Stage, words: &[u8]) {
+pub fn keep(to: Stdout, s: Stage, words: &[u8]) -> io::Result<()> {
     let said = scripts::numbers(scripts::section(words, 0));
     let all = s.bytes;
     let mut list = [5u32; 128];
@@ -81,13 +84,13 @@ pub fn keep(s: Stage, words: &[u8]) {
         scripts::number(said, 1) as usize,
         &mut list,
     );
-    say::text(b" -> ");
-    told::truth(got);
-    say::text(b",");
-    serial(list[0]);
-    serial(list[1]);
-    serial(list[2]);
-    serial(list[3]);
-    say::text(b", changed ");
-    say::number(changed(&list));
+    say::text(to, b" -> ")?;
+    told::truth(to, got)?;
+    say::text(to, b",")?;
+    serial(to, list[0])?;
+    serial(to, list[1])?;
+    serial(to, list[2])?;
+    serial(to, list[3])?;
+    say::text(to, b", changed ")?;
+    say::number(to, changed(&list))
 }

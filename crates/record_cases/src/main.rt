@@ -22,29 +22,31 @@ mod stage;
 mod writing;
 
 use stage::Stage;
+use std::io::{self, Stdout};
 
-fn main() {
-    let mut input = io::large_buffer();
-    let n = io::read_full(0, &mut input);
-    lines(&input[..n]);
+fn main(rt: HostRuntime) -> io::Result<()> {
+    let mut input = [0u8; 65536];
+    let n = scripts::read_full(rt.stdin(), &mut input)?;
+    lines(rt.stdout(), &input[..n])
 }
 
 // One line, and what the next ones read.
-fn line(s: Stage, words: &[u8]) -> Stage {
-    trials::say::text(words);
-    let next = commands::call(s, words);
-    trials::say::text(b"\n");
-    next
+fn line(to: Stdout, s: Stage, words: &[u8]) -> io::Result<Stage> {
+    trials::say::text(to, words)?;
+    let next = commands::call(to, s, words)?;
+    trials::say::text(to, b"\n")?;
+    Ok(next)
 }
 
-fn lines(input: &[u8]) {
+fn lines(to: Stdout, input: &[u8]) -> io::Result<()> {
     let mut s = stage::none();
     let mut from = 0;
     while from < input.len() {
         let n = scripts::up_to(input, from, b'\n');
-        let next = line(s, scripts::part(input, from, n));
+        let next = line(to, s, scripts::part(input, from, n))?;
         s = next;
         from += n;
         from += 1;
     }
+    Ok(())
 }

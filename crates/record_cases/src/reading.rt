@@ -2,6 +2,7 @@
 use crate::say as told;
 use crate::stage::{Serials, Stage};
 use layouts::{Reading, Sight};
+use std::io::{self, Stdout};
 use trials::{parts, say};
 
 // The record from a position on.
@@ -40,7 +41,14 @@ fn ordered(bytes: &[u8], firsts: Serials, seconds: Serials) -> Reading {
 }
 
 // What the desk sees, over a slice of so many bytes that is there before; its refusal, 0 for none.
-fn desk(bytes: &[u8], before: usize, firsts: Serials, seconds: Serials, aloud: bool) -> u8 {
+fn desk(
+    to: Stdout,
+    bytes: &[u8],
+    before: usize,
+    firsts: Serials,
+    seconds: Serials,
+    aloud: bool,
+) -> io::Result<u8> {
     let one = firsts.of;
     let two = seconds.of;
     let mut roster = scripts::part(bytes, 0, before);
@@ -51,11 +59,11 @@ fn desk(bytes: &[u8], before: usize, firsts: Serials, seconds: Serials, aloud: b
         &mut roster,
     );
     if aloud {
-        told::sight(got, roster);
+        told::sight(to, got, roster)?;
     }
     match got {
-        Sight::Refused(fault) => fault,
-        Sight::Seen(_, _) => 0,
+        Sight::Refused(fault) => Ok(fault),
+        Sight::Seen(_, _) => Ok(0),
     }
 }
 
@@ -68,54 +76,59 @@ fn fault(got: Reading) -> u8 {
 }
 
 // What each reader meets.
-fn faults(bytes: &[u8], firsts: Serials, seconds: Serials) {
-    say::text(b" ");
-    say::number(fault(stream(bytes, 0, firsts, seconds)) as u64);
-    say::text(b":");
-    say::number(fault(alone(bytes, firsts, seconds)) as u64);
-    say::text(b":");
-    say::number(desk(bytes, 0, firsts, seconds, false) as u64);
+fn faults(to: Stdout, bytes: &[u8], firsts: Serials, seconds: Serials) -> io::Result<()> {
+    say::text(to, b" ")?;
+    say::number(to, fault(stream(bytes, 0, firsts, seconds)) as u64)?;
+    say::text(to, b":")?;
+    say::number(to, fault(alone(bytes, firsts, seconds)) as u64)?;
+    say::text(to, b":")?;
+    let seen = desk(to, bytes, 0, firsts, seconds, false)?;
+    say::number(to, seen as u64)
 }
 
 // Every cut of the bytes, from none of them on.
-fn cuts(bytes: &[u8], firsts: Serials, seconds: Serials) {
+fn cuts(to: Stdout, bytes: &[u8], firsts: Serials, seconds: Serials) -> io::Result<()> {
     let mut k = 0;
     while k < bytes.len() {
-        faults(scripts::part(bytes, 0, k), firsts, seconds);
+        faults(to, scripts::part(bytes, 0, k), firsts, seconds)?;
         k += 1;
     }
+    Ok(())
 }
 
 // The bytes by each reader.
-fn each(bytes: &[u8], firsts: Serials, seconds: Serials) {
-    told::reading(stream(bytes, 0, firsts, seconds));
-    say::text(b"; lone: ");
-    told::reading(alone(bytes, firsts, seconds));
-    say::text(b"; desk: ");
-    desk(bytes, 0, firsts, seconds, true);
+fn each(to: Stdout, bytes: &[u8], firsts: Serials, seconds: Serials) -> io::Result<()> {
+    told::reading(to, stream(bytes, 0, firsts, seconds))?;
+    say::text(to, b"; lone: ")?;
+    told::reading(to, alone(bytes, firsts, seconds))?;
+    say::text(to, b"; desk: ")?;
+    desk(to, bytes, 0, firsts, seconds, true)?;
+    Ok(())
 }
 
 // A line that reads the bytes of a stage, by its first letter.
-pub fn call(s: Stage, words: &[u8]) {
+pub fn call(to: Stdout, s: Stage, words: &[u8]) -> io::Result<()> {
     let all = s.bytes;
     let bytes = parts::of_record(&all, s.length);
     let said = scripts::numbers(scripts::section(words, 0));
     let at = scripts::number(said, 0) as usize;
     let firsts = s.firsts;
     let seconds = s.seconds;
-    say::text(b" -> ");
+    say::text(to, b" -> ")?;
     match scripts::byte(words, 0) {
-        b'r' => told::reading(stream(bytes, 0, firsts, seconds)),
-        b'l' => told::reading(alone(bytes, firsts, seconds)),
+        b'r' => told::reading(to, stream(bytes, 0, firsts, seconds)),
+        b'l' => told::reading(to, alone(bytes, firsts, seconds)),
         b'd' => {
-            desk(bytes, 0, firsts, seconds, true);
+            desk(to, bytes, 0, firsts, seconds, true)?;
+            Ok(())
         }
-        b'o' => told::reading(ordered(bytes, firsts, seconds)),
-        b'a' => told::reading(stream(bytes, at, firsts, seconds)),
+        b'o' => told::reading(to, ordered(bytes, firsts, seconds)),
+        b'a' => told::reading(to, stream(bytes, at, firsts, seconds)),
         b's' => {
-            desk(bytes, at, firsts, seconds, true);
+            desk(to, bytes, at, firsts, seconds, true)?;
+            Ok(())
         }
-        b'c' => cuts(bytes, firsts, seconds),
-        _ => each(bytes, firsts, seconds),
+        b'c' => cuts(to, bytes, firsts, seconds),
+        _ => each(to, bytes, firsts, seconds),
     }
 }

@@ -2,70 +2,62 @@
 use histories::Kind;
 use layouts::{Reading, Sight};
 use sets::{Place, PlaceSet};
+use std::io::{self, Stdout};
 use trials::say;
 
-pub fn refused(fault: u8) {
-    say::text(b"refused ");
-    say::number(fault as u64);
+pub fn refused(to: Stdout, fault: u8) -> io::Result<()> {
+    print!(to; "refused {fault}")
 }
 
-fn kind(k: Kind) {
+fn kind(to: Stdout, k: Kind) -> io::Result<()> {
     match k {
-        Kind::Full => say::text(b"full"),
-        Kind::Short => say::text(b"short"),
+        Kind::Full => say::text(to, b"full"),
+        Kind::Short => say::text(to, b"short"),
     }
 }
 
 // The members of a set, in order.
-fn members(set: PlaceSet) {
+fn members(to: Stdout, set: PlaceSet) -> io::Result<()> {
     for p in 0..128 {
         if places::contains(set, Place(p)) {
-            say::text(b" ");
-            say::number(p as u64);
+            print!(to; " {p}")?;
         }
     }
+    Ok(())
 }
 
-pub fn reading(got: Reading) {
+pub fn reading(to: Stdout, got: Reading) -> io::Result<()> {
     match got {
-        Reading::Refused(fault) => refused(fault),
+        Reading::Refused(fault) => refused(to, fault),
         Reading::Read(record) => {
             let k = record.kind;
             let own = record.own;
             let mourned = record.mourned;
-            kind(k);
-            say::text(b", place ");
-            say::number(own.0 as u64);
-            say::text(b" of ");
-            say::number(record.count as u64);
-            say::text(b", roster at ");
-            say::number(record.roster as u64);
-            say::text(b", mourned");
-            members(mourned);
-            say::text(b", next ");
-            say::number(record.next as u64);
+            kind(to, k)?;
+            print!(to; ", place {} of {}", own.0, record.count)?;
+            print!(to; ", roster at {}, mourned", record.roster)?;
+            members(to, mourned)?;
+            print!(to; ", next {}", record.next)
         }
     }
 }
 
-pub fn sight(got: Sight, roster: &[u8]) {
+pub fn sight(to: Stdout, got: Sight, roster: &[u8]) -> io::Result<()> {
     match got {
-        Sight::Refused(fault) => refused(fault),
+        Sight::Refused(fault) => refused(to, fault)?,
         Sight::Seen(k, own) => {
-            kind(k);
-            say::text(b", own serial ");
-            say::number(own.0 as u64);
+            kind(to, k)?;
+            print!(to; ", own serial {}", own.0)?;
         }
     }
-    say::text(b", part of ");
-    say::number(roster.len() as u64);
-    scripts::say_runs(scripts::part(roster, 0, 32));
+    print!(to; ", part of {}", roster.len())?;
+    scripts::say_runs(to, scripts::part(roster, 0, 32))
 }
 
-pub fn truth(got: bool) {
+pub fn truth(to: Stdout, got: bool) -> io::Result<()> {
     if got {
-        say::text(b"yes");
+        say::text(to, b"yes")
     } else {
-        say::text(b"no");
+        say::text(to, b"no")
     }
 }

@@ -4,6 +4,7 @@ use crate::stage::Stage;
 use histories::Kind;
 use scripts::List;
 use sets::{Place, PlaceSet};
+use std::io::{self, Stdout};
 use trials::{outcomes, parts, say};
 
 fn kind(said: List) -> Kind {
@@ -27,7 +28,7 @@ fn set(said: List) -> PlaceSet {
 }
 
 // The record that a line describes: where it ends or the refusal, and the first 48 bytes of the buffer, which is to be read from here on.
-pub fn write(s: Stage, words: &[u8]) -> Stage {
+pub fn write(to: Stdout, s: Stage, words: &[u8]) -> io::Result<Stage> {
     let said = scripts::numbers(scripts::section(words, 0));
     let roster = stage::listed(s, words, 1);
     let of = roster.of;
@@ -42,9 +43,9 @@ pub fn write(s: Stage, words: &[u8]) -> Stage {
         parts::lent(&mut out, room),
         scripts::number(said, 3) as usize,
     );
-    say::text(b" -> ");
-    outcomes::write(outcomes::writing(got));
-    say::text(b",");
-    scripts::say_runs(parts::of_record(&out, 48));
-    stage::with(s, out, room)
+    say::text(to, b" -> ")?;
+    outcomes::write(to, outcomes::writing(got))?;
+    say::text(to, b",")?;
+    scripts::say_runs(to, parts::of_record(&out, 48))?;
+    Ok(stage::with(s, out, room))
 }

@@ -3,84 +3,90 @@ use crate::{lending, offering};
 use recovery::Recovery;
 use serials::Serial;
 use sets::{Place, PlaceSet};
+use std::io::{self, Stdout};
 use trials::{outcomes, say};
 
-fn ask(r: Recovery, words: &[u8]) {
+fn ask(to: Stdout, r: Recovery, words: &[u8]) -> io::Result<()> {
     let said = scripts::numbers(scripts::section(words, 0));
-    offering::answer(outcomes::asked(recovery::ask(r, offering::place(said, 0))));
+    offering::answer(
+        to,
+        outcomes::asked(recovery::ask(r, offering::place(said, 0))),
+    )
 }
 
-fn find_one(r: Recovery, x: u32) {
-    say::text(b" ");
-    outcomes::write(outcomes::found(recovery::find(r, Serial(x))));
+fn find_one(to: Stdout, r: Recovery, x: u32) -> io::Result<()> {
+    say::text(to, b" ")?;
+    outcomes::write(to, outcomes::found(recovery::find(r, Serial(x))))
 }
 
 // Where each serial of a list stands.
-fn find(r: Recovery, wide: bool, words: &[u8]) {
+fn find(to: Stdout, r: Recovery, wide: bool, words: &[u8]) -> io::Result<()> {
     let said = scripts::numbers(scripts::section(words, 0));
-    say::text(b" ->");
+    say::text(to, b" ->")?;
     for k in 0usize..300 {
         if said.count <= k {
-            return;
+            return Ok(());
         }
-        find_one(r, scripts::serial(scripts::number(said, k), wide));
+        find_one(to, r, scripts::serial(scripts::number(said, k), wide))?;
     }
+    Ok(())
 }
 
 // The answer for each place of the roster.
-fn places(r: Recovery) {
+fn places(to: Stdout, r: Recovery) -> io::Result<()> {
     let mut p = 0;
     while p < r.count {
-        outcomes::say_letter(outcomes::asked(recovery::ask(r, Place(p))));
+        outcomes::say_letter(to, outcomes::asked(recovery::ask(r, Place(p))))?;
         p += 1;
     }
+    Ok(())
 }
 
 // A set in hexadecimal, its high word first where there is one.
-fn set(name: &[u8], got: PlaceSet) {
-    say::text(name);
+fn set(to: Stdout, name: &[u8], got: PlaceSet) -> io::Result<()> {
+    say::text(to, name)?;
     if got.high != 0 {
-        say::hex(got.high);
-        say::text(b":");
+        say::hex(to, got.high)?;
+        say::text(to, b":")?;
     }
-    say::hex(got.low);
+    say::hex(to, got.low)
 }
 
-fn whole(settled: bool) {
+fn whole(to: Stdout, settled: bool) -> io::Result<()> {
     if settled {
-        say::text(b", whole settled");
+        say::text(to, b", whole settled")
     } else {
-        say::text(b", whole open");
+        say::text(to, b", whole open")
     }
 }
 
 // Every answer.
-fn tell(r: Recovery) {
-    say::text(b" -> ");
-    places(r);
-    whole(recovery::settled(r));
-    set(b", unmourned ", recovery::unmourned(r));
-    set(b", absent ", recovery::unmourned_absent(r));
-    say::text(b", count ");
-    say::number(recovery::unmourned_count(r) as u64);
+fn tell(to: Stdout, r: Recovery) -> io::Result<()> {
+    say::text(to, b" -> ")?;
+    places(to, r)?;
+    whole(to, recovery::settled(r))?;
+    set(to, b", unmourned ", recovery::unmourned(r))?;
+    set(to, b", absent ", recovery::unmourned_absent(r))?;
+    say::text(to, b", count ")?;
+    say::number(to, recovery::unmourned_count(r) as u64)?;
     let got = recovery::to_fetch(r);
-    say::text(b", fetch ");
-    outcomes::write(outcomes::fetching(got));
-    say::text(b", next ");
-    outcomes::write(outcomes::next(got));
+    say::text(to, b", fetch ")?;
+    outcomes::write(to, outcomes::fetching(got))?;
+    say::text(to, b", next ")?;
+    outcomes::write(to, outcomes::next(got))
 }
 
 // A line, by its first letter; any other is a heading.
-pub fn call(r: Recovery, wide: bool, words: &[u8]) {
+pub fn call(to: Stdout, r: Recovery, wide: bool, words: &[u8]) -> io::Result<()> {
     match scripts::byte(words, 0) {
-        b'a' => ask(r, words),
-        b't' => tell(r),
-        b'f' => find(r, wide, words),
-        b'l' => lending::list(r, words),
-        b's' => lending::show(r, words),
-        b'c' => lending::check(r, words),
-        b'w' => lending::write(r, words),
-        b'p' => offering::answer(outcomes::played(minimax::play(r))),
-        _ => {}
+        b'a' => ask(to, r, words),
+        b't' => tell(to, r),
+        b'f' => find(to, r, wide, words),
+        b'l' => lending::list(to, r, words),
+        b's' => lending::show(to, r, words),
+        b'c' => lending::check(to, r, words),
+        b'w' => lending::write(to, r, words),
+        b'p' => offering::answer(to, outcomes::played(minimax::play(r))),
+        _ => Ok(()),
     }
 }

@@ -2,22 +2,23 @@
 use crate::offering;
 use recovery::Recovery;
 use scripts::List;
+use std::io::{self, Stdout};
 use trials::{outcomes, parts, say};
 
 fn size(said: List, k: usize) -> usize {
     scripts::number(said, k) as usize
 }
 
-pub fn list(r: Recovery, words: &[u8]) {
+pub fn list(to: Stdout, r: Recovery, words: &[u8]) -> io::Result<()> {
     let said = scripts::numbers(scripts::section(words, 0));
     let mut out = [0xaau8; 160];
     let got = recovery::list(r, parts::lent(&mut out, size(said, 0)));
-    offering::answer(outcomes::listing(got));
-    say::text(b",");
-    scripts::say_runs(&out);
+    offering::answer(to, outcomes::listing(got))?;
+    say::text(to, b",")?;
+    scripts::say_runs(to, &out)
 }
 
-pub fn show(r: Recovery, words: &[u8]) {
+pub fn show(to: Stdout, r: Recovery, words: &[u8]) -> io::Result<()> {
     let said = scripts::numbers(scripts::section(words, 0));
     let mut first = [0xaau8; 160];
     let mut second = [0xaau8; 160];
@@ -27,11 +28,11 @@ pub fn show(r: Recovery, words: &[u8]) {
         parts::lent(&mut first, size(said, 1)),
         parts::lent(&mut second, size(said, 2)),
     );
-    offering::answer(outcomes::showing(got));
-    say::text(b",");
-    scripts::say_runs(&first);
-    say::text(b",");
-    scripts::say_runs(&second);
+    offering::answer(to, outcomes::showing(got))?;
+    say::text(to, b",")?;
+    scripts::say_runs(to, &first)?;
+    say::text(to, b",")?;
+    scripts::say_runs(to, &second)
 }
 
 // The byte and the position before it that a list has from some number on, if it has both.
@@ -42,16 +43,16 @@ fn put(out: &mut [u8; 160], said: List, k: usize) {
     }
 }
 
-pub fn check(r: Recovery, words: &[u8]) {
+pub fn check(to: Stdout, r: Recovery, words: &[u8]) -> io::Result<()> {
     let said = scripts::numbers(scripts::section(words, 0));
     let mut history = [0u8; 160];
     put(&mut history, said, 1);
     put(&mut history, said, 3);
     let got = recovery::check(r, parts::of_lent(&history, size(said, 0)));
-    offering::answer(outcomes::checked(got));
+    offering::answer(to, outcomes::checked(got))
 }
 
-pub fn write(r: Recovery, words: &[u8]) {
+pub fn write(to: Stdout, r: Recovery, words: &[u8]) -> io::Result<()> {
     let said = scripts::numbers(scripts::section(words, 0));
     let mut out = [0xaau8; 160];
     let got = recovery::write(
@@ -60,7 +61,7 @@ pub fn write(r: Recovery, words: &[u8]) {
         parts::lent(&mut out, size(said, 1)),
         size(said, 2),
     );
-    offering::answer(outcomes::writing(got));
-    say::text(b",");
-    scripts::say_runs(&out);
+    offering::answer(to, outcomes::writing(got))?;
+    say::text(to, b",")?;
+    scripts::say_runs(to, &out)
 }

@@ -4,6 +4,7 @@ use recovery::Recovery;
 use scripts::List;
 use serials::Serial;
 use sets::Place;
+use std::io::{self, Stdout};
 use trials::{outcomes, parts, say};
 
 // A recovery, and whether serials are multiples of 65536.
@@ -14,9 +15,9 @@ pub struct Stage {
 }
 
 // What an outcome says, behind its line.
-pub fn answer(got: u64) {
-    say::text(b" -> ");
-    outcomes::write(got);
+pub fn answer(to: Stdout, got: u64) -> io::Result<()> {
+    say::text(to, b" -> ")?;
+    outcomes::write(to, got)
 }
 
 // A recovery whose opening was refused: it has no places.
@@ -44,35 +45,35 @@ fn unit(s: Stage, words: &[u8]) -> Stage {
     }
 }
 
-fn open(s: Stage, words: &[u8]) -> Stage {
+fn open(to: Stdout, s: Stage, words: &[u8]) -> io::Result<Stage> {
     let mut list = [0u32; 300];
     let n = scripts::serials(scripts::section(words, 0), s.wide, &mut list);
     let got = recovery::open(parts::of_script(&list, n));
     let opening = got.answer;
     let recovery = got.recovery;
-    answer(outcomes::opening(opening));
-    with(s, recovery)
+    answer(to, outcomes::opening(opening))?;
+    Ok(with(s, recovery))
 }
 
-fn offered(s: Stage, record: &[u8]) -> Stage {
+fn offered(to: Stdout, s: Stage, record: &[u8]) -> io::Result<Stage> {
     let old = s.recovery;
     let got = recovery::offer(old, record);
     let reply = got.answer;
     let recovery = got.recovery;
-    answer(outcomes::reply(reply));
-    with(s, recovery)
+    answer(to, outcomes::reply(reply))?;
+    Ok(with(s, recovery))
 }
 
-fn record(s: Stage, words: &[u8]) -> Stage {
+fn record(to: Stdout, s: Stage, words: &[u8]) -> io::Result<Stage> {
     let mut made = [0u8; 1100];
     let n = scripts::lay(words, s.wide, &mut made);
-    offered(s, parts::of_record(&made, n))
+    offered(to, s, parts::of_record(&made, n))
 }
 
-fn bytes(s: Stage, words: &[u8]) -> Stage {
+fn bytes(to: Stdout, s: Stage, words: &[u8]) -> io::Result<Stage> {
     let mut spelled = [0u8; 1100];
     let n = scripts::bytes(scripts::section(words, 0), &mut spelled);
-    offered(s, parts::of_record(&spelled, n))
+    offered(to, s, parts::of_record(&spelled, n))
 }
 
 // A number of a list as a place.
@@ -81,45 +82,45 @@ pub fn place(list: List, k: usize) -> Place {
 }
 
 // One second serial for a place.
-fn give_one(s: Stage, place: usize, x: u64) -> Stage {
+fn give_one(to: Stdout, s: Stage, place: usize, x: u64) -> io::Result<Stage> {
     let old = s.recovery;
     let got = recovery::give(old, Place(place), Serial(scripts::serial(x, s.wide)));
     let giving = got.answer;
     let recovery = got.recovery;
-    say::text(b" ");
-    outcomes::write(outcomes::giving(giving));
-    with(s, recovery)
+    say::text(to, b" ")?;
+    outcomes::write(to, outcomes::giving(giving))?;
+    Ok(with(s, recovery))
 }
 
 // Second serials for the places from one on.
-fn give(start: Stage, words: &[u8]) -> Stage {
+fn give(to: Stdout, start: Stage, words: &[u8]) -> io::Result<Stage> {
     let said = scripts::numbers(scripts::section(words, 0));
     let place = scripts::number(said, 0) as usize;
     let mut s = start;
-    say::text(b" ->");
+    say::text(to, b" ->")?;
     for k in 1usize..300 {
         if said.count <= k {
-            return s;
+            return Ok(s);
         }
         let at = std::num::wrapping_add_usize(place, k - 1);
-        let next = give_one(s, at, scripts::number(said, k));
+        let next = give_one(to, s, at, scripts::number(said, k))?;
         s = next;
     }
-    s
+    Ok(s)
 }
 
 // A line, by its first letter.
-pub fn call(s: Stage, words: &[u8]) -> Stage {
+pub fn call(to: Stdout, s: Stage, words: &[u8]) -> io::Result<Stage> {
     match scripts::byte(words, 0) {
-        b'u' => unit(s, words),
-        b'o' => open(s, words),
-        b'r' => record(s, words),
-        b'b' => bytes(s, words),
-        b'g' => give(s, words),
+        b'u' => Ok(unit(s, words)),
+        b'o' => open(to, s, words),
+        b'r' => record(to, s, words),
+        b'b' => bytes(to, s, words),
+        b'g' => give(to, s, words),
         _ => {
             let recovery = s.recovery;
-            asking::call(recovery, s.wide, words);
-            s
+            asking::call(to, recovery, s.wide, words)?;
+            Ok(s)
         }
     }
 }

@@ -1,9 +1,9 @@
 // Scripts of test cases: lines of words, decimal numbers and hexadecimal bytes, taken apart; and bytes printed in runs.
 #![tactic(auto)]
 
-ghost use Rattle.std.specs.Prelude.{◌-◌, ◌<◌, ◌≤◌, length};
+ghost use Rattle.std.specs.Prelude.{◌-◌, ◌<◌, ◌≤◌, length, IfOk};
 
-use libc::STDOUT_FILENO;
+use std::io::{self, Read, Stdin, Stdout};
 use trials::{parts, stored};
 
 // A list of numbers, at most 300 of them.
@@ -312,21 +312,37 @@ fn run(list: &[u8], from: usize) -> usize
 }
 
 // A byte in hexadecimal, and how often it stands where that is more than once.
-fn say_run(x: u8, count: usize) {
-    io::write_all(STDOUT_FILENO, b" ");
-    io::print_hex(STDOUT_FILENO, x as u64, 2);
+fn say_run(to: Stdout, x: u8, count: usize) -> io::Result<()> {
+    print!(to; " {x:02x}")?;
     if 1 < count {
-        io::write_all(STDOUT_FILENO, b"*");
-        io::print_decimal(STDOUT_FILENO, count as u64);
+        return print!(to; "*{count}");
     }
+    Ok(())
 }
 
 // Bytes, each run of equal ones once.
-pub fn say_runs(list: &[u8]) {
+pub fn say_runs(to: Stdout, list: &[u8]) -> io::Result<()> {
     let mut i = 0;
     while i < list.len() {
         let count = run(list, i);
-        say_run(list[i], count);
+        say_run(to, list[i], count)?;
         i += count;
     }
+    Ok(())
+}
+
+// Reads until the buffer is full or the input has ended, and says how many bytes came.
+pub fn read_full(from: Stdin, buf: &mut [u8]) -> io::Result<usize>
+    ensures { IfOk result (λ n. n ≤ length buf.new) }
+{
+    let mut input = from;
+    let mut done = 0;
+    while done < buf.len() {
+        let n = input.read(&mut buf[done..])?;
+        if n == 0 {
+            break;
+        }
+        done += n;
+    }
+    Ok(done)
 }

@@ -2,6 +2,7 @@
 ghost use Rattle.std.specs.Prelude.{◌≤◌, ◌<◌};
 
 use crate::Few;
+use std::io::{self, Stdout};
 use trials::tallies::Tally;
 use trials::{parts, say, stored, tallies};
 
@@ -101,64 +102,69 @@ fn kind(k: u32) -> u8 {
     2
 }
 
-fn say_few(list: Few) {
+fn say_few(to: Stdout, list: Few) -> io::Result<()> {
     if 0 < list.n {
-        say::text(b" ");
-        say::number(list.a as u64);
+        print!(to; " {}", list.a)?;
     }
     if 1 < list.n {
-        say::text(b" ");
-        say::number(list.b as u64);
+        print!(to; " {}", list.b)?;
     }
     if 2 < list.n {
-        say::text(b" ");
-        say::number(list.c as u64);
+        print!(to; " {}", list.c)?;
     }
+    Ok(())
 }
 
-fn say_giving(c: Case, i: usize) {
+fn say_giving(to: Stdout, c: Case, i: usize) -> io::Result<()> {
     if c.n <= i {
-        return;
+        return Ok(());
     }
-    say::text(b" ");
-    say::number(place(c, i) as u64);
-    say::text(b":");
-    say::number(serial(c, i) as u64);
+    print!(to; " {}:{}", place(c, i), serial(c, i))
 }
 
-fn say_case(c: Case) {
-    say::text(b"given PLACE:SERIAL");
-    say_giving(c, 0);
-    say_giving(c, 1);
-    say_giving(c, 2);
+fn say_case(to: Stdout, c: Case) -> io::Result<()> {
+    say::text(to, b"given PLACE:SERIAL")?;
+    say_giving(to, c, 0)?;
+    say_giving(to, c, 1)?;
+    say_giving(to, c, 2)
+}
+
+fn say_held(
+    to: Stdout,
+    c: Case,
+    call: &[u8],
+    about: u64,
+    expected: u64,
+    came: u64,
+) -> io::Result<()> {
+    say_case(to, c)?;
+    say::text(to, b", ")?;
+    say::text(to, call)?;
+    print!(to; " {about}")?;
+    tallies::say_both(to, expected, came)
 }
 
 // One outcome of a call about something (a giving, a serial) after these givings.
 pub fn held(t: Tally, c: Case, call: &[u8], about: u64, expected: u64, came: u64) -> Tally {
     if tallies::is_first(t, expected, came) {
-        say_case(c);
-        say::text(b", ");
-        say::text(call);
-        say::text(b" ");
-        say::number(about);
-        tallies::say_both(expected, came);
+        let _ = say_held(t.to, c, call, about, expected, came);
     }
     tallies::counted(t, expected, came)
+}
+
+fn say_record(to: Stdout, c: Case, k: u32, expected: u64, came: u64) -> io::Result<()> {
+    say_case(to, c)?;
+    print!(to; ", offer of kind {}, roster", kind(k))?;
+    say_few(to, roster(k))?;
+    print!(to; ", own {}, mourned", own(k))?;
+    say_few(to, mourned(k))?;
+    tallies::say_both(to, expected, came)
 }
 
 // The outcome of offering record number k.
 pub fn held_record(t: Tally, c: Case, k: u32, expected: u64, came: u64) -> Tally {
     if tallies::is_first(t, expected, came) {
-        say_case(c);
-        say::text(b", offer of kind ");
-        say::number(kind(k) as u64);
-        say::text(b", roster");
-        say_few(roster(k));
-        say::text(b", own ");
-        say::number(own(k) as u64);
-        say::text(b", mourned");
-        say_few(mourned(k));
-        tallies::say_both(expected, came);
+        let _ = say_record(t.to, c, k, expected, came);
     }
     tallies::counted(t, expected, came)
 }

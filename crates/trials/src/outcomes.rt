@@ -6,6 +6,7 @@ use games::Played;
 use layouts::Writing;
 use serials::Finding;
 use sets::PlaceSet;
+use std::io::{self, Stdout};
 
 pub const OPENED: u64 = 1000001;
 
@@ -41,38 +42,38 @@ pub const SETTLED: u64 = 1000015;
 pub const SECOND: u64 = 1001000;
 
 // An outcome in words, or as the number that it is.
-pub fn write(x: u64) {
+pub fn write(to: Stdout, x: u64) -> io::Result<()> {
     match x {
-        1000001 => say::text(b"opened"),
-        1000002 => say::text(b"taken"),
-        1000003 => say::text(b"repeated"),
-        1000004 => say::text(b"last"),
-        1000005 => say::text(b"not"),
-        1000006 => say::text(b"open"),
-        1000007 => say::text(b"shown"),
-        1000008 => say::text(b"decided"),
-        1000009 => say::text(b"fits"),
-        1000010 => say::text(b"fits not"),
-        1000011 => say::text(b"nothing"),
-        1000012 => say::text(b"places from 64 on"),
-        1000013 => say::text(b"given"),
-        1000014 => say::text(b"listed"),
-        1000015 => say::text(b"settled"),
+        1000001 => say::text(to, b"opened"),
+        1000002 => say::text(to, b"taken"),
+        1000003 => say::text(to, b"repeated"),
+        1000004 => say::text(to, b"last"),
+        1000005 => say::text(to, b"not"),
+        1000006 => say::text(to, b"open"),
+        1000007 => say::text(to, b"shown"),
+        1000008 => say::text(to, b"decided"),
+        1000009 => say::text(to, b"fits"),
+        1000010 => say::text(to, b"fits not"),
+        1000011 => say::text(to, b"nothing"),
+        1000012 => say::text(to, b"places from 64 on"),
+        1000013 => say::text(to, b"given"),
+        1000014 => say::text(to, b"listed"),
+        1000015 => say::text(to, b"settled"),
         1001000..=1001127 => {
-            say::text(b"second of place ");
-            say::number(std::num::wrapping_sub_u64(x, SECOND));
+            say::text(to, b"second of place ")?;
+            say::number(to, std::num::wrapping_sub_u64(x, SECOND))
         }
-        _ => say::number(x),
+        _ => say::number(to, x),
     }
 }
 
 // One letter for an answer: l last, n not, o open.
-pub fn say_letter(x: u64) {
+pub fn say_letter(to: Stdout, x: u64) -> io::Result<()> {
     match x {
-        LAST => say::text(b"l"),
-        NOT_LAST => say::text(b"n"),
-        OPEN => say::text(b"o"),
-        _ => say::text(b"?"),
+        LAST => say::text(to, b"l"),
+        NOT_LAST => say::text(to, b"n"),
+        OPEN => say::text(to, b"o"),
+        _ => say::text(to, b"?"),
     }
 }
 

@@ -1,14 +1,14 @@
 // What is printed.
-use libc::STDOUT_FILENO;
+use std::io::{self, Stdout};
 
-pub fn text(words: &[u8]) {
-    io::write_all(STDOUT_FILENO, words);
+pub fn text(to: Stdout, words: &[u8]) -> io::Result<()> {
+    to.write_all(words)
 }
 
-pub fn number(n: u64) {
-    io::print_decimal(STDOUT_FILENO, n);
+pub fn number(to: Stdout, n: u64) -> io::Result<()> {
+    to.print(n)
 }
 
-pub fn hex(n: u64) {
-    io::print_hex(STDOUT_FILENO, n, 1);
+pub fn hex(to: Stdout, n: u64) -> io::Result<()> {
+    print!(to; "{n:x}")
 }

@@ -1,14 +1,18 @@
-// A family's cases: how many were tried, and how many differ. Only the first that differs is printed.
+// A family's cases: how many were tried, and how many differ. Only the first that differs is printed. Where that fails, the family's
+// line, which comes after it, tells the count, or fails too.
 use crate::{outcomes, say};
+use std::io::{self, Stdout};
 
 #[derive(Clone, Copy)]
 pub struct Tally {
+    pub to: Stdout,
     pub tried: u64,
     pub differing: u64,
 }
 
-pub fn none() -> Tally {
+pub fn none(to: Stdout) -> Tally {
     Tally {
+        to,
         tried: 0,
         differing: 0,
     }
@@ -19,11 +23,13 @@ pub fn counted(t: Tally, expected: u64, came: u64) -> Tally {
     let tried = std::num::wrapping_add_u64(t.tried, 1);
     if expected == came {
         return Tally {
+            to: t.to,
             tried,
             differing: t.differing,
         };
     }
     Tally {
+        to: t.to,
         tried,
         differing: std::num::wrapping_add_u64(t.differing, 1),
     }
@@ -38,23 +44,21 @@ pub fn is_first(t: Tally, expected: u64, came: u64) -> bool {
 }
 
 // The end of a line about a case that differs.
-pub fn say_both(expected: u64, came: u64) {
-    say::text(b": expected ");
-    outcomes::write(expected);
-    say::text(b", came ");
-    outcomes::write(came);
-    say::text(b"\n");
+pub fn say_both(to: Stdout, expected: u64, came: u64) -> io::Result<()> {
+    say::text(to, b": expected ")?;
+    outcomes::write(to, expected)?;
+    say::text(to, b", came ")?;
+    outcomes::write(to, came)?;
+    say::text(to, b"\n")
 }
 
 // The line of a family.
-pub fn report(name: &[u8], t: Tally) {
-    say::text(name);
-    say::text(b": ");
-    say::number(t.tried);
-    say::text(b" cases");
+pub fn report(name: &[u8], t: Tally) -> io::Result<()> {
+    let to = t.to;
+    say::text(to, name)?;
+    print!(to; ": {} cases", t.tried)?;
     if t.differing != 0 {
-        say::text(b", of which differ ");
-        say::number(t.differing);
+        print!(to; ", of which differ {}", t.differing)?;
     }
-    say::text(b"\n");
+    say::text(to, b"\n")
 }
