@@ -11,12 +11,12 @@ use std::io::{Read, Write};
 use std::path::{Path, PathBuf};
 use std::process::{Command, Stdio, exit};
 
-// The program that GM_PROGRAM names, or the one that `rt check recover` writes.
+// The program that GM_PROGRAM names, or the one that `rt run` in crates/recover builds.
 fn program() -> PathBuf {
     let otherwise = Path::new(env!("CARGO_MANIFEST_DIR")).join("../crates/recover/out/recover");
     let path = std::env::var_os("GM_PROGRAM").map_or(otherwise, PathBuf::from);
     if !path.is_file() {
-        eprintln!("no program at {}: run rt check recover, or set GM_PROGRAM", path.display());
+        eprintln!("no program at {}: run rt run in crates/recover, or set GM_PROGRAM", path.display());
         exit(2);
     }
     path
