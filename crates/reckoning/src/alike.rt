@@ -117,7 +117,7 @@ fn again(c: Case, r: Recovery, t: Tally, place: usize) -> Tally {
         return t;
     }
     let kind = cases::kind(c, place);
-    let got = piles::offer(c.n, r, kind, place, cases::mourned(c, place));
+    let got = piles::offer(c.n, &r, kind, place, cases::mourned(c, place));
     let answer = got.answer;
     let left = got.recovery;
     let came = outcomes::reply(answer);

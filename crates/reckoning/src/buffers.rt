@@ -56,11 +56,11 @@ fn shown(list: &[u32], pile: Pile, place: usize) -> u64 {
     outcomes::DECIDED
 }
 
-fn show(list: &[u32], c: Case, r: Recovery, pile: Pile, tally: Tally, place: usize) -> Tally {
+fn show(list: &[u32], c: Case, r: &Recovery, pile: Pile, tally: Tally, place: usize) -> Tally {
     let mut first = [0xaau8; 80];
     let mut second = [0xaau8; 80];
     let expected = shown(list, pile, place);
-    let got = recovery::show(r, Place(place), &mut first, &mut second);
+    let got = recovery::show(*r, Place(place), &mut first, &mut second);
     let came = outcomes::showing(got);
     let t = cases::held(tally, c, b"show", place as u64, expected, came);
     if came != outcomes::SHOWN {
@@ -72,13 +72,13 @@ fn show(list: &[u32], c: Case, r: Recovery, pile: Pile, tally: Tally, place: usi
 }
 
 // Writes the record of a place that is back: the bytes that were offered.
-fn write_back(c: Case, r: Recovery, t: Tally, kind: u8, place: usize, mourned: u32) -> Tally {
+fn write_back(c: Case, r: &Recovery, t: Tally, kind: u8, place: usize, mourned: u32) -> Tally {
     let serials = stored::serials();
     let n = c.n;
     let mut made = [0u8; 1100];
     let mut out = [0xaau8; 80];
     let length = stored::record(kind, place, parts::of_six(&serials, n), mourned, &mut made);
-    let got = recovery::write(r, Place(place), &mut out, 20);
+    let got = recovery::write(*r, Place(place), &mut out, 20);
     let t = cases::held(
         t,
         c,
@@ -92,9 +92,9 @@ fn write_back(c: Case, r: Recovery, t: Tally, kind: u8, place: usize, mourned: u
 }
 
 // The record of a place that is not back is not written.
-fn write_none(c: Case, r: Recovery, t: Tally, place: usize) -> Tally {
+fn write_none(c: Case, r: &Recovery, t: Tally, place: usize) -> Tally {
     let mut out = [0xaau8; 80];
-    let got = recovery::write(r, Place(place), &mut out, 20);
+    let got = recovery::write(*r, Place(place), &mut out, 20);
     let t = cases::held(t, c, b"write", place as u64, 14, outcomes::writing(got));
     cases::held(
         t,
@@ -107,7 +107,7 @@ fn write_none(c: Case, r: Recovery, t: Tally, place: usize) -> Tally {
 }
 
 // Offers a record of a place that is back: the same again, another set, and the other kind.
-fn again(c: Case, r: Recovery, t: Tally, kind: u8, place: usize, mourned: u32) -> Tally {
+fn again(c: Case, r: &Recovery, t: Tally, kind: u8, place: usize, mourned: u32) -> Tally {
     let about = place as u64;
     let got = piles::offer(c.n, r, kind, place, mourned);
     let reply = got.answer;
@@ -124,7 +124,7 @@ fn again(c: Case, r: Recovery, t: Tally, kind: u8, place: usize, mourned: u32) -
 }
 
 // All of this for a place.
-fn of_place(list: &[u32], c: Case, r: Recovery, pile: Pile, tally: Tally, place: usize) -> Tally {
+fn of_place(list: &[u32], c: Case, r: &Recovery, pile: Pile, tally: Tally, place: usize) -> Tally {
     let t = show(list, c, r, pile, tally, place);
     if !matrices::is_back(pile, place) {
         return write_none(c, r, t, place);
@@ -135,7 +135,7 @@ fn of_place(list: &[u32], c: Case, r: Recovery, pile: Pile, tally: Tally, place:
     again(c, r, t, kind, place, mourned)
 }
 
-pub(crate) fn places(list: &[u32], c: Case, r: Recovery, pile: Pile, tally: Tally) -> Tally {
+pub(crate) fn places(list: &[u32], c: Case, r: &Recovery, pile: Pile, tally: Tally) -> Tally {
     let mut t = tally;
     let mut place = 0;
     while place < c.n {
@@ -154,10 +154,10 @@ fn checked(c: Case, pile: Pile, m: u32) -> u64 {
     outcomes::FITS_NOT
 }
 
-fn check(c: Case, r: Recovery, pile: Pile, t: Tally, m: u32) -> Tally {
+fn check(c: Case, r: &Recovery, pile: Pile, t: Tally, m: u32) -> Tally {
     let mut bytes = [0u8; 80];
     laid::lay(m, c.n, &mut bytes);
-    let got = recovery::check(r, parts::of_buffer(&bytes, 80));
+    let got = recovery::check(*r, parts::of_buffer(&bytes, 80));
     cases::held(
         t,
         c,
@@ -171,7 +171,7 @@ fn check(c: Case, r: Recovery, pile: Pile, t: Tally, m: u32) -> Tally {
 // Checks every so many-th matrix of the roster.
 pub(crate) fn checks(
     c: Case,
-    r: Recovery,
+    r: &Recovery,
     pile: Pile,
     tally: Tally,
     from: u32,
@@ -193,7 +193,7 @@ pub(crate) fn checks(
 pub(crate) fn listed(
     list: &[u32],
     c: Case,
-    r: Recovery,
+    r: &Recovery,
     pile: Pile,
     tally: Tally,
     from: usize,

@@ -54,7 +54,7 @@ fn histories(list: &[u32], c: Case, tally: Tally, matrix: u32, history: usize) -
     requires { (0 < matrix) × (matrix ≤ 65536) × (0 < history) × (history ≤ 1024) }
 {
     let g = piles::offers(list, c, tally);
-    let r = g.recovery;
+    let r = &g.recovery;
     let pile = g.pile;
     let t = g.tally;
     let t = buffers::places(list, c, r, pile, t);

@@ -35,16 +35,16 @@ fn outcome(got: Listing) -> u64 {
 }
 
 // A list into a buffer of so many bytes: the outcome, and all five bytes afterwards.
-fn listed(c: Case, r: Recovery, t: Tally, room: usize, expected: u64, bytes: [u8; 5]) -> Tally {
+fn listed(c: Case, r: &Recovery, t: Tally, room: usize, expected: u64, bytes: [u8; 5]) -> Tally {
     let mut out = [OLD; 5];
-    let got = recovery::list(r, parts::lent(&mut out, room));
+    let got = recovery::list(*r, parts::lent(&mut out, room));
     let about = room as u64;
     let t = cases::held(t, c, b"list", about, expected, outcome(got));
     cases::held(t, c, b"listed", about, 1, outcomes::truth(same(bytes, out)))
 }
 
 // The list with room for one byte more than the roster has places, and with room for one less.
-pub fn lists(c: Case, r: Recovery, t: Tally, of: [u64; 4]) -> Tally {
+pub fn lists(c: Case, r: &Recovery, t: Tally, of: [u64; 4]) -> Tally {
     let n = c.n;
     if n == 0 {
         return t;

@@ -37,11 +37,11 @@ fn opened(c: Case, t: Tally) -> Group {
 }
 
 // Offers the record of a place.
-pub fn offer(n: usize, r: Recovery, kind: u8, place: usize, mourned: u32) -> Offered {
+pub fn offer(n: usize, r: &Recovery, kind: u8, place: usize, mourned: u32) -> Offered {
     let serials = stored::serials();
     let mut bytes = [0u8; 1100];
     let length = stored::record(kind, place, parts::of_six(&serials, n), mourned, &mut bytes);
-    recovery::offer(r, parts::of_record(&bytes, length))
+    recovery::offer(*r, parts::of_record(&bytes, length))
 }
 
 // What the pile says of a new record: taken where some history fits with it, else 11.
@@ -61,21 +61,20 @@ fn after(pile: Pile, with: Pile, expected: u64) -> Pile {
 }
 
 // The record of a place offered, unless it is absent.
-fn step(list: &[u32], c: Case, g: Group, place: usize) -> Group {
+fn step(list: &[u32], c: Case, g: &mut Group, place: usize) {
     if cases::is_absent(c, place) {
-        return g;
+        return;
     }
     let kind = cases::kind(c, place);
     let mourned = cases::mourned(c, place);
-    let old = g.recovery;
     let pile = g.pile;
     let tally = g.tally;
     let with = matrices::with(pile, kind, place, mourned);
     let expected = offered(list, with);
-    let got = offer(c.n, old, kind, place, mourned);
+    let got = offer(c.n, &g.recovery, kind, place, mourned);
     let answer = got.answer;
-    let recovery = got.recovery;
-    let next = cases::held(
+    g.recovery = got.recovery;
+    g.tally = cases::held(
         tally,
         c,
         b"offer",
@@ -83,12 +82,7 @@ fn step(list: &[u32], c: Case, g: Group, place: usize) -> Group {
         expected,
         outcomes::reply(answer),
     );
-    let left = after(pile, with, expected);
-    Group {
-        recovery,
-        pile: left,
-        tally: next,
-    }
+    g.pile = after(pile, with, expected);
 }
 
 // All records of a case in its order.
@@ -96,8 +90,7 @@ pub fn offers(list: &[u32], c: Case, t: Tally) -> Group {
     let mut g = opened(c, t);
     let mut i = 0;
     while i < 4 {
-        let next = step(list, c, g, cases::turn(c, i));
-        g = next;
+        step(list, c, &mut g, cases::turn(c, i));
         i += 1;
     }
     g
@@ -111,21 +104,21 @@ fn said(list: &[u32], n: usize, pile: Pile, all: usize, place: usize) -> u64 {
     matrices::answer(list, pile, all, place)
 }
 
-fn ask(c: Case, r: Recovery, t: Tally, place: usize, expected: u64) -> Tally {
+fn ask(c: Case, r: &Recovery, t: Tally, place: usize, expected: u64) -> Tally {
     if c.n <= place {
         return t;
     }
-    let got = recovery::ask(r, Place(place));
+    let got = recovery::ask(*r, Place(place));
     cases::held(t, c, b"ask", place as u64, expected, outcomes::asked(got))
 }
 
 // Both sets and the count.
-fn sets(c: Case, r: Recovery, pile: Pile, t: Tally) -> Tally {
+fn sets(c: Case, r: &Recovery, pile: Pile, t: Tally) -> Tally {
     let all = matrices::unmourned(c.n, pile);
     let absent = matrices::unmourned_absent(c.n, pile);
-    let got = recovery::unmourned(r);
+    let got = recovery::unmourned(*r);
     let t = cases::held(t, c, b"unmourned", 0, all as u64, outcomes::set(got));
-    let got = recovery::unmourned_absent(r);
+    let got = recovery::unmourned_absent(*r);
     let t = cases::held(
         t,
         c,
@@ -134,19 +127,19 @@ fn sets(c: Case, r: Recovery, pile: Pile, t: Tally) -> Tally {
         absent as u64,
         outcomes::set(got),
     );
-    let got = recovery::unmourned_count(r);
+    let got = recovery::unmourned_count(*r);
     cases::held(t, c, b"count", 0, matrices::size(all) as u64, got as u64)
 }
 
-fn settled(c: Case, r: Recovery, t: Tally, expected: bool) -> Tally {
+fn settled(c: Case, r: &Recovery, t: Tally, expected: bool) -> Tally {
     let whole = outcomes::truth(expected);
-    let got = recovery::settled(r);
+    let got = recovery::settled(*r);
     cases::held(t, c, b"settled", 0, whole, outcomes::truth(got))
 }
 
 // Every answer of a group: the sets, whether the whole is settled, what is to fetch, each place, and all in one list.
-pub fn answers(list: &[u32], c: Case, g: Group) -> Tally {
-    let r = g.recovery;
+pub fn answers(list: &[u32], c: Case, g: &Group) -> Tally {
+    let r = &g.recovery;
     let pile = g.pile;
     let tally = g.tally;
     let all = matrices::fitting(list, pile);
@@ -167,5 +160,6 @@ pub fn answers(list: &[u32], c: Case, g: Group) -> Tally {
 
 // A case from its opening on.
 pub fn played(list: &[u32], c: Case, t: Tally) -> Tally {
-    answers(list, c, offers(list, c, t))
+    let g = offers(list, c, t);
+    answers(list, c, &g)
 }

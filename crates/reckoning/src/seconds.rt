@@ -126,7 +126,7 @@ fn beside(list: &[u32], c: Case, r: Recovery, pile: Pile, t: Tally, x: Mixed) ->
     let reply = got.answer;
     let left = got.recovery;
     let t = held(t, c, x, b"offer", expected, outcomes::reply(reply));
-    let first = piles::offer(c.n, r, x.kind, x.place, x.mourned);
+    let first = piles::offer(c.n, &r, x.kind, x.place, x.mourned);
     let plain = first.recovery;
     let equal = outcomes::truth(alike::same(plain, left));
     let t = held(t, c, x, b"left by first serials as by", 1, equal);

@@ -31,8 +31,8 @@ fn lowest(set: u32) -> u64 {
 }
 
 // What is told where these places block, and that there is nothing to fetch just where the histories leave no place open.
-pub fn beside(c: Case, r: Recovery, set: u32, t: Tally, settled: bool) -> Tally {
-    let got = recovery::to_fetch(r);
+pub fn beside(c: Case, r: &Recovery, set: u32, t: Tally, settled: bool) -> Tally {
+    let got = recovery::to_fetch(*r);
     let told = outcomes::fetching(got);
     let next = outcomes::next(got);
     let t = cases::held(t, c, b"to fetch", 0, fetches(set), told);
