@@ -43,6 +43,7 @@ pub fn list(r: Recovery, out: &mut [u8]) -> Listing
 }
 
 // Whether no place is open.
+#[inline(always)]
 pub fn settled(r: Recovery) -> bool
     ensures { result ≡ settled_of r }
 {
@@ -54,6 +55,7 @@ pub fn settled(r: Recovery) -> bool
 }
 
 // How many fetches surely suffice until no place is open, and the place to fetch next; or that none is open.
+#[inline(always)]
 pub fn to_fetch(r: Recovery) -> Fetching
     ensures { result ≡ fetching_of r }
 {

@@ -12,74 +12,54 @@ use histories::Kind;
 use layouts::{Reading, Record};
 use sets::{Place, PlaceSet};
 
-// The recovery with a place that is full, and whose mourned set is known.
-fn keep_full(r: Recovery, own: Place, mourned: PlaceSet) -> Recovery
-    ensures { result ≡ keeping_full r own.0 (has mourned) }
+// Marks a place as full, and adds those of its mourned set to the earlier ones.
+fn keep_full(next: &mut Recovery, own: Place, mourned: PlaceSet)
+    ensures { next.new ≡ keeping_full next.old own.0 (has mourned) }
 {
-    let mut next = r;
     let full = next.full;
     next.full = places::with(full, own);
     let earlier = next.earlier;
     next.earlier = places::union(earlier, mourned);
-    next
 }
 
-// The recovery with a place that is back, and its row.
-fn keep_row(r: Recovery, own: Place, mourned: PlaceSet) -> Recovery
-    ensures { result ≡ keeping_row r own.0 (has mourned) }
+// Marks a place as back, adds its mourned set to the mourned ones, and sets its row.
+fn keep_row(next: &mut Recovery, own: Place, mourned: PlaceSet)
+    ensures { next.new ≡ keeping_row next.old own.0 (has mourned) }
 {
-    let mut next = r;
     let returned = next.returned;
     next.returned = places::with(returned, own);
     let named = next.mourned;
     next.mourned = places::union(named, mourned);
     row_tables::set(&mut next.rows, own, mourned);
-    next
 }
 
-// The recovery with the record of a place, as taking it leaves it.
-fn keep(r: Recovery, own: Place, kind: Kind, mourned: PlaceSet) -> Recovery
-    ensures { result ≡ keeping r own.0 kind (has mourned) }
+// Keeps the record of a place.
+fn keep(next: &mut Recovery, own: Place, kind: Kind, mourned: PlaceSet)
+    ensures { next.new ≡ keeping next.old own.0 kind (has mourned) }
 {
     match kind {
         Kind::Full => {
-            let marked = keep_full(r, own, mourned);
-            keep_row(marked, own, mourned)
+            keep_full(next, own, mourned);
+            keep_row(next, own, mourned);
         }
-        Kind::Short => keep_row(r, own, mourned),
-    }
-}
-
-// What offering says where the recovery stays as it is.
-fn say(r: Recovery, answer: Reply) -> Offered
-    ensures { result ≡ saying r answer }
-{
-    Offered {
-        answer,
-        recovery: r,
+        Kind::Short => keep_row(next, own, mourned),
     }
 }
 
 // What an answer to a record leaves.
-fn apply(r: Recovery, own: Place, kind: Kind, mourned: PlaceSet, answer: Reply) -> Offered
-    ensures { result ≡ answered r own.0 kind (has mourned) answer }
+fn apply(next: &mut Recovery, own: Place, kind: Kind, mourned: PlaceSet, answer: Reply)
+    ensures { record { answer = answer; recovery = next.new } ≡ answered next.old own.0 kind (has mourned) answer }
 {
     match answer {
-        Reply::Taken => {
-            let next = keep(r, own, kind, mourned);
-            Offered {
-                answer: Reply::Taken,
-                recovery: next,
-            }
-        }
-        Reply::Repeated => say(r, Reply::Repeated),
-        Reply::Refused(fault) => say(r, Reply::Refused(fault)),
+        Reply::Taken => keep(next, own, kind, mourned),
+        Reply::Repeated => (),
+        Reply::Refused(_) => (),
     }
 }
 
-// Offers a record that was read from some bytes: 9, repeated or 10, 11, or taken.
-pub fn offer_read(r: Recovery, bytes: &[u8], x: Record) -> Offered
-    ensures { result ≡ answered r x.own.0 x.kind (has x.mourned) (judgement r.count r.serials (has r.returned) (has r.full) r.rows bytes.now x) }
+// Offers a record that was read from some bytes, and changes the recovery where it stands: 3 KB are not copied.
+fn offer_read_in_place(r: &mut Recovery, bytes: &[u8], x: Record) -> Reply
+    ensures { record { answer = result; recovery = r.new } ≡ answered r.old x.own.0 x.kind (has x.mourned) (judgement r.old.count r.old.serials (has r.old.returned) (has r.old.full) r.old.rows bytes.now x) }
 {
     let returned = r.returned;
     let full = r.full;
@@ -87,16 +67,42 @@ pub fn offer_read(r: Recovery, bytes: &[u8], x: Record) -> Offered
     let own = x.own;
     let kind = x.kind;
     let mourned = x.mourned;
-    apply(r, own, kind, mourned, answer)
+    apply(r, own, kind, mourned, answer);
+    answer
 }
 
-// Offers a lone record: 1 to 8, 9, repeated or 10, 11, or taken. Its own and mourned serials may be second ones of the group.
-pub fn offer(r: Recovery, bytes: &[u8]) -> Offered
-    ensures { result ≡ offered r bytes.now }
+// Offers a lone record, and changes the recovery where it stands.
+fn offer_in_place(r: &mut Recovery, bytes: &[u8]) -> Reply
+    ensures { record { answer = result; recovery = r.new } ≡ offered r.old bytes.now }
 {
     let got = groups::read_lone(r.count, &r.serials, &r.seconds, bytes);
     match got {
-        Reading::Read(x) => offer_read(r, bytes, x),
-        Reading::Refused(fault) => say(r, Reply::Refused(fault)),
+        Reading::Read(x) => offer_read_in_place(r, bytes, x),
+        Reading::Refused(fault) => Reply::Refused(fault),
+    }
+}
+
+// Offers a record that was read from some bytes: 9, repeated or 10, 11, or taken.
+pub fn offer_read(r: Recovery, bytes: &[u8], x: Record) -> Offered
+    ensures { result ≡ answered r x.own.0 x.kind (has x.mourned) (judgement r.count r.serials (has r.returned) (has r.full) r.rows bytes.now x) }
+{
+    let mut left = r;
+    let answer = offer_read_in_place(&mut left, bytes, x);
+    Offered {
+        answer,
+        recovery: left,
+    }
+}
+
+// Offers a lone record: 1 to 8, 9, repeated or 10, 11, or taken. Its own and mourned serials may be second ones of the group.
+#[inline(always)]
+pub fn offer(r: Recovery, bytes: &[u8]) -> Offered
+    ensures { result ≡ offered r bytes.now }
+{
+    let mut left = r;
+    let answer = offer_in_place(&mut left, bytes);
+    Offered {
+        answer,
+        recovery: left,
     }
 }

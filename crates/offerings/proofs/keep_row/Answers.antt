@@ -1,7 +1,6 @@
--- `recovery::keep_row` meets its contract. Assumes nothing.
+-- `offerings::keep_row` meets its contract. Assumes nothing.
 use native.Mathlib.Omega.{arith}
 use Rattle.calls.proofs.Gives.{keep_row_is}
-use borrow.Author.Rules.{rules}
 use Rattle.offerings.proofs.keep_row.Goals as goal
 
 pub returns : goal.returns

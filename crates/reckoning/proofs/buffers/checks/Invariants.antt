@@ -1,0 +1,9 @@
+-- `buffers::checks` is safe and ends. Assumes nothing.
+use Rattle.std.proofs.Common.{◌-◌, rules}
+use Rattle.reckoning.proofs.buffers.checks.Given as goal
+
+abbrev pub invariant-loop-k : goal.invariant-loop-k
+invariant-loop-k l = Unit {0}
+
+abbrev pub decreases-loop-k : goal.decreases-loop-k
+decreases-loop-k l = 65536 - l.k
