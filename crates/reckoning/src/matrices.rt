@@ -191,12 +191,16 @@ pub fn gather(n: usize, out: &mut [u32; 1024]) -> usize {
     count
 }
 
-// How many histories of a list have these rows under the mask.
-fn count(list: &[u32], mask: u32, rows: u32) -> usize {
+// How many histories of a list have these rows under the mask, and no bit of `empty`: both are one test of each.
+pub fn count(list: &[u32], mask: u32, rows: u32, empty: u32) -> usize {
+    if rows & empty != 0 {
+        return 0;
+    }
+    let fixed = mask | empty;
     let mut n = 0;
     let mut i = 0;
     while i < list.len() {
-        let one = one_if(list[i] & mask == rows);
+        let one = one_if(list[i] & fixed == rows);
         n += one;
         i += 1;
     }
@@ -255,7 +259,7 @@ pub fn is_back(pile: Pile, p: usize) -> bool {
 
 // How many histories fit.
 pub fn fitting(list: &[u32], pile: Pile) -> usize {
-    count(list, pile.mask, pile.rows)
+    count(list, pile.mask, pile.rows, 0)
 }
 
 // Whether some history fits.
@@ -263,17 +267,9 @@ pub fn some_fits(list: &[u32], pile: Pile) -> bool {
     fitting(list, pile) != 0
 }
 
-// In how many of the histories that fit a place is in nobody's row: in none where a recorded row holds it.
-fn fitting_last(list: &[u32], pile: Pile, p: usize) -> usize {
-    if pile.rows & column(p) != 0 {
-        return 0;
-    }
-    count(list, pile.mask | column(p), pile.rows)
-}
-
-// The answer for a place: in how many of all fitting histories it is last.
+// The answer for a place: in how many of all fitting histories it is in nobody's row.
 pub fn answer(list: &[u32], pile: Pile, all: usize, p: usize) -> u64 {
-    let last = fitting_last(list, pile, p);
+    let last = count(list, pile.mask, pile.rows, column(p));
     if last == all {
         return outcomes::LAST;
     }
