@@ -4,7 +4,7 @@
 ghost use Rattle.std.specs.Prelude.{◌≡◌};
 ghost use Rattle.sets.specs.PlaceSets.{has};
 ghost use Rattle.answers.specs.Replies.{judgement};
-ghost use Rattle.calls.specs.Promises.{saying, keeping_full, keeping_row, keeping, answered, offered};
+ghost use Rattle.calls.specs.Promises.{keeping_full, keeping_row, keeping, answered, offered};
 
 use answers::Reply;
 use calls::{Offered, Recovery};
