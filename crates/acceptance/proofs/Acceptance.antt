@@ -10,16 +10,16 @@ use borrow.Author.Tests.{eqb-true, eqb-false, ne_eqb, ltb-true}
 use Rattle.sets.specs.Sets.{Places, below, intersection, without, any, all, subset}
 use Rattle.sets.specs.PlaceSets.{has}
 use Rattle.sets.specs.declared.PlaceSet.{PlaceSet}
-use Rattle.sets.proofs.Booleans.{clash, is_false, both_ways, and_left, and_right, or_cases, or_right, minus_elim, minus_intro, eqb_self}
+use Rattle.sets.proofs.Booleans.{clash, is_false, both_ways, and_left, and_right, or_cases, or_right, minus_elim, eqb_self}
 use Rattle.sets.proofs.Tests.{any_elim, all_elim, all_intro, subset_elim, subset_intro}
-use Rattle.sets.proofs.Laws.{has_below}
+use Rattle.sets.proofs.Members.{pass, pass_elim, pass_intro}
 use Rattle.rows.specs.Rows.{rows_of}
 use Rattle.histories.specs.declared.Kind.{Kind}
 use Rattle.histories.specs.declared.Kind.TheVariants.{Full, Short}
 use Rattle.histories.specs.Histories.{Row, History, Before, heard, through, Accepted, lay}
 use Rattle.histories.specs.Rule.{recorded, reach, before, is_full, full_back, agrees, accepts}
 use Rattle.histories.proofs.Closure.{reach_heard, reach_mono, reach_trans, reach_sound}
-use Rattle.answers.specs.Views.{size, kind_in, accepted_in, recorded_in, reach_from}
+use Rattle.answers.specs.Views.{size, accepted_in, recorded_in, reach_from}
 use Rattle.answers.proofs.Views.{size_at_most, full_in, On, cut_below, cut_same, accepted_on, recorded_parts}
 use Rattle.answers.proofs.Walks.{reach_here, reach_next}
 
@@ -35,11 +35,6 @@ subset_cut n N S T l on a =
 -- the test of one row, as the code computes it
 abbrev pub agreeing : Row → ℕ → PlaceSet → Bool
 agreeing S p N = not (S p) || subset 128 (has N) S
-
--- what holds at each turn: each of `first` that is not in `left` agrees
-pub record Agreed (w : List ℕ) (roster first N : PlaceSet) (p : ℕ) (left : PlaceSet) : Type 0 where
-  pub listed : (m : ℕ) → has left m ≡ true → has first m ≡ true
-  pub agreed : (m : ℕ) → has first m ≡ true → has left m ≡ false → agreeing (intersection (has roster) (rows_of w m)) p N ≡ true
 
 -- as the code goes: `roster` is the roster, N what of E is on it, `back` who of s is on it, `first` the full ones of these
 module _ (count : ℕ) (w : List ℕ) (roster s u back first E N : PlaceSet) (p : ℕ) (ea : has roster ≡ below (size count)) (en : has N ≡ intersection (has roster) (has E))
@@ -76,36 +71,19 @@ module _ (count : ℕ) (w : List ℕ) (roster s u back first E N : PlaceSet) (p 
   unfolding agrees
   agrees_other m h = ap (λ (f : Bool). not (f && recorded A m p) || subset n (has E) (recorded A m)) (full_is m ∙ h)
 
-  pub every : (left : PlaceSet) → Agreed w roster first N p left → ((j : ℕ) → j < 128 → has left j ≡ false) → true ≡ all n (agrees n A p (has E))
-  every left t none = sym (all_intro n (agrees n A p (has E)) (λ m _. one m (has first m) refl))
+  on_roster : (m : ℕ) → has first m ≡ true → m < n
+  on_roster m h = ltb-true m n (and_left (below n m) (has s m) (sym (ap (λ (S : Places). S m) (eb ∙ ap (λ (S : Places). intersection S (has s)) ea)) ∙ and_left (has back m) (has u m) (sym (ap (λ (S : Places). S m) ef) ∙ h)))
+
+  -- each of `first` agrees, as the code tests it, where every place does
+  pub each_agrees : pass (λ m. agreeing (intersection (has roster) (rows_of w m)) p N) first ≡ all n (agrees n A p (has E))
+  each_agrees =
+      both_ways _ _
+      (λ e. all_intro n (agrees n A p (has E)) (λ m _. one e m (has first m) refl))
+      (λ e. pass_intro _ first (λ m h. sym (agrees_full m h) ∙ all_elim n (agrees n A p (has E)) e m (on_roster m h)))
     where
-      one : (m : ℕ) (b : Bool) → has first m ≡ b → agrees n A p (has E) m ≡ true
-      one m true h = agrees_full m h ∙ t.agreed m h (is_false (has left m) (λ x. clash x (none m (has_below left m x))))
-      one m false h = agrees_other m h
-
-  module _ (left : PlaceSet) (t : Agreed w roster first N p left) (m : ℕ) (h : has left m ≡ true) (row : PlaceSet) (er : has row ≡ intersection (has roster) (rows_of w m))
-      (r : Bool) (e : r ≡ agreeing (has row) p N) where
-    tested : r ≡ agreeing (intersection (has roster) (rows_of w m)) p N
-    tested = e ∙ ap (λ (S : Row). agreeing S p N) er
-
-    pub differs : r ≡ false → false ≡ all n (agrees n A p (has E))
-    differs f = sym (is_false (all n (agrees n A p (has E))) (λ x. clash (all_elim n (agrees n A p (has E)) x m on) (agrees_full m (t.listed m h) ∙ sym tested ∙ f)))
-      where
-        on : m < n
-        on = ltb-true m n (sym (ap (λ (S : Places). S m) ea) ∙ and_left (has roster m) (has s m) (sym (ap (λ (S : Places). S m) eb) ∙ and_left (has back m) (has u m) (sym (ap (λ (S : Places). S m) ef) ∙ t.listed m h)))
-
-    pub goes : r ≡ true → (rest : PlaceSet) → has rest ≡ without m (has left) → Agreed w roster first N p rest
-    goes f rest ew = record { listed = λ k x. t.listed k (and_left (has left k) (not (eqb k m)) (sym (at k) ∙ x)); agreed = λ k b x. go k b x (eqb k m) refl }
-      where
-        at : (k : ℕ) → has rest k ≡ has left k && not (eqb k m)
-        at k = ap (λ (S : Places). S k) ew
-
-        go : (k : ℕ) → has first k ≡ true → has rest k ≡ false → (x : Bool) → eqb k m ≡ x → agreeing (intersection (has roster) (rows_of w k)) p N ≡ true
-        go k b x true q = ap (λ (j : ℕ). agreeing (intersection (has roster) (rows_of w j)) p N) (eqb-true k m q) ∙ sym tested ∙ f
-        go k b x false q = t.agreed k b (is_false (has left k) (λ y. clash (at k ∙ minus_intro y q) x))
-
-pub agreed_none : (w : List ℕ) (roster first N : PlaceSet) (p : ℕ) → Agreed w roster first N p first
-agreed_none w roster first N p = record { listed = λ m h. h; agreed = λ m b h. clash b h }
+      one : pass (λ m. agreeing (intersection (has roster) (rows_of w m)) p N) first ≡ true → (m : ℕ) (b : Bool) → has first m ≡ b → agrees n A p (has E) m ≡ true
+      one e m true h = agrees_full m h ∙ pass_elim _ first e m h
+      one e m false h = agrees_other m h
 
 -- ---- the new record itself
 

@@ -9,7 +9,7 @@ ghost use Rattle.answers.specs.Views.{size, accepted_in};
 
 use histories::Kind;
 use rows::Rows;
-use sets::{Found, Place, PlaceSet};
+use sets::{Place, PlaceSet};
 
 // Whether a row that names a place holds some others.
 fn agrees(row: PlaceSet, place: Place, known: PlaceSet) -> bool
@@ -35,18 +35,8 @@ fn all_agree(
     let all = standings::roster(count);
     let known = places::intersection(all, preceding);
     let back = places::intersection(all, returned);
-    let mut left = places::intersection(back, full);
-    loop {
-        let found = places::lowest(left);
-        let Found::At(p) = found else {
-            return true;
-        };
-        let theirs = standings::row_in(rows, all, p);
-        if !agrees(theirs, place, known) {
-            return false;
-        }
-        left = places::without(left, p);
-    }
+    let asked = places::intersection(back, full);
+    places::members(asked).all(|p| agrees(standings::row_in(rows, all, p), place, known))
 }
 
 // Whether a full record names all that are before it; a short one need not.

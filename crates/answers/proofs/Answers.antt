@@ -5,13 +5,14 @@ use mathlib.Core.List.{List}
 use Prim.Native.Nat.{ℕ, ◌<◌}
 use native.Mathlib.Omega.{arith}
 use lib.Dec.{ltb, eqb}
-use borrow.Author.Tests.{ltb-true, lt-ltb, eqb-true}
+use borrow.Author.Tests.{ltb-true, lt-ltb}
 use Rattle.sets.specs.Sets.{Places, nothing, below, only, union, intersection, difference, without, any}
 use Rattle.sets.specs.PlaceSets.{has}
 use Rattle.sets.specs.declared.PlaceSet.{PlaceSet}
-use Rattle.sets.proofs.Booleans.{clash, is_false, is_true, both_ways, and_left, not_true, minus_elim, minus_intro}
+use Rattle.sets.proofs.Booleans.{clash, is_false, is_true, both_ways, and_left, not_true, not_intro, minus_elim, minus_intro}
 use Rattle.sets.proofs.Tests.{any_elim, any_intro, any_none, none_any}
 use Rattle.sets.proofs.Laws.{has_below}
+use Rattle.sets.proofs.Members.{pass, pass_elim, pass_intro}
 use Rattle.histories.specs.Histories.{Row, Accepted}
 use Rattle.histories.specs.Rule.{recorded, reach, before, full_back, answer_with, open_answer, none_open}
 use Rattle.histories.specs.Kept.{ruled_out_by, blockers_by, answer_by, settled_by}
@@ -209,44 +210,18 @@ module _ (n : ℕ) (A : Accepted) (M F : Row) (i : ℕ) where
 
 -- ---- settled
 
--- what holds at each turn: those of `first` that are not in `left` have no blocker
-pub record Passed (n : ℕ) (A : Accepted) (M F : Row) (first left : PlaceSet) : Type 0 where
-  pub listed : (i : ℕ) → has left i ≡ true → has first i ≡ true
-  pub free : (i : ℕ) → has first i ≡ true → has left i ≡ false → any n (blockers_by n A M F i) ≡ false
-
-pub passed_none : (n : ℕ) (A : Accepted) (M F : Row) (first : PlaceSet) → Passed n A M F first first
-passed_none n A M F first = record { listed = λ i h. h; free = λ i b h. clash b h }
-
-pub passed_next : (n : ℕ) (A : Accepted) (M F : Row) (first left rest : PlaceSet) → Passed n A M F first left → (p : ℕ) → any n (blockers_by n A M F p) ≡ false → has rest ≡ without p (has left)
-    → Passed n A M F first rest
-passed_next n A M F first left rest t p b e = record {
-  listed = λ i h. t.listed i (and_left (has left i) (not (eqb i p)) (sym (at i) ∙ h));
-  free = λ i m h. go i m h (eqb i p) refl;
-}
+-- where the unmourned places, all in `first`, have no blocker, and only there
+pub settled_each : (n : ℕ) (A : Accepted) (M F : Row) (first : PlaceSet) → has first ≡ difference (below n) M → pass (λ i. not (any n (blockers_by n A M F i))) first ≡ settled_by n A M F
+unfolding settled_by none_open
+settled_each n A M F first e =
+    both_ways _ _ (λ h. not_intro (none_any n (λ i. open_answer (answer_by n A M F i)) (λ i l. none h i l (M i) refl)))
+    (λ h. pass_intro _ first (λ i m.
+    let u = minus_elim (ltb i n) (M i) (sym (at i) ∙ m) in
+    not_intro (is_false _ (λ b. clash (any_intro n (λ i. open_answer (answer_by n A M F i)) i (ltb-true i n u.0) (open_blocked n A M F i u.1 b)) (not_true _ h)))))
   where
-    at : (i : ℕ) → has rest i ≡ has left i && not (eqb i p)
+    at : (i : ℕ) → has first i ≡ ltb i n && not (M i)
     at i = ap (λ (S : Places). S i) e
 
-    go : (i : ℕ) → has first i ≡ true → has rest i ≡ false → (x : Bool) → eqb i p ≡ x → any n (blockers_by n A M F i) ≡ false
-    go i m h true q = ap (λ (j : ℕ). any n (blockers_by n A M F j)) (eqb-true i p q) ∙ b
-    go i m h false q = t.free i m (is_false (has left i) (λ s. clash (at i ∙ minus_intro s q) h))
-
--- `first` has the unmourned places
-module _ (n : ℕ) (A : Accepted) (M F : Row) (first left : PlaceSet) (e : has first ≡ difference (below n) M) (t : Passed n A M F first left) where
-  at : (i : ℕ) → has first i ≡ ltb i n && not (M i)
-  at i = ap (λ (S : Places). S i) e
-
-  -- nobody is left, or one is open
-  pub settled_all : ((j : ℕ) → j < 128 → has left j ≡ false) → true ≡ settled_by n A M F
-  unfolding settled_by none_open
-  settled_all none = sym (ap not (none_any n (λ i. open_answer (answer_by n A M F i)) (λ i l. go i l (M i) refl)))
-    where
-      go : (i : ℕ) → i < n → (x : Bool) → M i ≡ x → open_answer (answer_by n A M F i) ≡ false
-      go i l true m = open_mourned n A M F i m
-      go i l false m = open_free n A M F i m (t.free i (at i ∙ minus_intro (lt-ltb i n l) m) (is_false (has left i) (λ h. clash h (none i (has_below left i h)))))
-
-  pub settled_open : (p : ℕ) → has left p ≡ true → any n (blockers_by n A M F p) ≡ true → false ≡ settled_by n A M F
-  unfolding settled_by none_open
-  settled_open p h b =
-      let u = minus_elim (ltb p n) (M p) (sym (at p) ∙ t.listed p h) in
-      sym (ap not (any_intro n (λ i. open_answer (answer_by n A M F i)) p (ltb-true p n u.0) (open_blocked n A M F p u.1 b)))
+    none : pass (λ i. not (any n (blockers_by n A M F i))) first ≡ true → (i : ℕ) → i < n → (x : Bool) → M i ≡ x → open_answer (answer_by n A M F i) ≡ false
+    none h i l true m = open_mourned n A M F i m
+    none h i l false m = open_free n A M F i m (not_true _ (pass_elim _ first h i (at i ∙ minus_intro (lt-ltb i n l) m)))

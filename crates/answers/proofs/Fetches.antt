@@ -1,5 +1,6 @@
 -- The blocking places: with the right sets kept they are the rule's, the rule's are those that may have heard an unmourned place, and
 -- where there is none the whole is settled. Assumes nothing.
+use Rattle.std.specs.Prelude.{Option, Some, None, Result, Ok, Err}
 use mathlib.Core.Path.{◌≡◌, refl, sym, ap, ◌∙◌, fun_ext}
 use mathlib.Core.Bool.{Bool, true, false, not, cond, ◌&&◌}
 use mathlib.Core.Logic.{◌↔◌}
@@ -18,7 +19,6 @@ use Rattle.histories.proofs.Kept.{blockers_kept}
 use Rattle.answers.proofs.Views.{recorded_parts}
 use Rattle.answers.specs.Fetches.{MayHaveHeard, blocking, blocking_by, told}
 use Rattle.answers.specs.declared.Fetching.{Fetching}
-use Rattle.answers.specs.declared.Fetching.TheVariants.{Settled, Needs}
 
 -- ---- with the right sets kept
 
@@ -96,19 +96,23 @@ settled_told n A M F = ap not (both_ways (any n opens) (any n (blocking_by n A M
         ∙ and_intro (and_right (ltb i n) (not (M i)) u) (any_intro n (blockers_by n A M F i) b l (and_right (difference (below n) M i) (blockers_by n A M F i b) w.2)))
 
 -- the number that is told is that of the members, and the place is the lowest of them
-pub told_means : (n : ℕ) (S : Row) (k p : ℕ) → told n S ≡ Needs k (record { 0 = p }) → (k ≡ count n S) × (p < n) × (S p ≡ true) × ((q : ℕ) → q < p → S q ≡ false)
+pub told_means : (n : ℕ) (S : Row) (k p : ℕ) → told n S ≡ Some (record { number = k; next = record { 0 = p } }) → (k ≡ count n S) × (p < n) × (S p ≡ true) × ((q : ℕ) → q < p → S q ≡ false)
 unfolding told
 told_means n S k p e = go (any n S) refl e
   where
-    next : Fetching → ℕ
-    next (Needs m q) = q.0
-    next Settled = 0
+    next : Option Fetching → ℕ
+    next (Some f) = f.next.0
+    next None = 0
 
-    go : (t : Bool) → any n S ≡ t → cond t (Needs (count n S) (record { 0 = lowest n S })) Settled ≡ Needs k (record { 0 = p })
+    number : Option Fetching → ℕ
+    number (Some f) = f.number
+    number None = 0
+
+    go : (t : Bool) → any n S ≡ t → cond {A = Option Fetching} t (Some (record { number = count n S; next = record { 0 = lowest n S } })) None ≡ Some (record { number = k; next = record { 0 = p } })
         → (k ≡ count n S) × (p < n) × (S p ≡ true) × ((q : ℕ) → q < p → S q ≡ false)
     go true a z =
         let w = any_elim n S a in
         let on : lowest n S < n = lowest_below n S w.0 w.1 w.2 in
         let is : lowest n S ≡ p = ap next z in
-        (cc, rw (sym is) on, rw (sym is) (lowest_member n S on), λ q l. lowest_least n S q (rw is l))
+        (sym (ap number z), rw (sym is) on, rw (sym is) (lowest_member n S on), λ q l. lowest_least n S q (rw is l))
     go false a z = let w : ◌≡◌ {A = ℕ} 0 1 = cc in absurd (omega arith)

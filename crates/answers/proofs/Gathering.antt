@@ -12,7 +12,7 @@ use Rattle.sets.specs.PlaceSets.{has, found}
 use Rattle.sets.specs.declared.PlaceSet.{PlaceSet}
 use Rattle.sets.proofs.Booleans.{clash, is_false, both_ways, and_intro, and_left, and_right, or_cases, or_left, or_right, minus_elim, minus_intro}
 use Rattle.sets.specs.declared.Place.{Place}
-use Rattle.sets.specs.declared.Found.TheVariants.{At, Nothing}
+use Rattle.std.specs.Prelude.{Option, Some, None, Result, Ok, Err}
 use Rattle.sets.proofs.Tests.{any_elim, any_intro, none_any, subset_elim, lowest_is}
 use Rattle.sets.proofs.Counting.{count_within}
 use Rattle.sets.proofs.Laws.{has_below, lowest_found, lowest_nothing}
@@ -20,7 +20,6 @@ use Rattle.histories.specs.Histories.{Row, Accepted}
 use Rattle.histories.specs.Kept.{ruled_out_by, blockers_by}
 use Rattle.histories.specs.Rule.{before, full_back}
 use Rattle.answers.specs.Views.{size, accepted_in}
-use Rattle.answers.specs.declared.Fetching.TheVariants.{Settled, Needs}
 use Rattle.answers.specs.Fetches.{blocking_by, told, fetching_by}
 
 -- the places of `first` that are not in `left` have been asked for, and `known` has just their blockers
@@ -130,11 +129,11 @@ module _ (n : ℕ) (A : Accepted) (M F : Row) where
     on : (b : ℕ) → has known b ≡ true → b < n
     on b h = (blocking_absent b (sym (ap (λ (S : Places). S b) e) ∙ h)).0
 
-    pub told_none : found 128 (lowest 128 (has known)) ≡ Nothing → Settled ≡ fetching_by n A M F
+    pub told_none : found 128 (lowest 128 (has known)) ≡ None → None ≡ fetching_by n A M F
     unfolding fetching_by told
     told_none h = sym (rw (sym e, none_any n (has known) (λ b l. lowest_nothing 128 (has known) h b (omega arith))))
 
-    pub told_some : (p : Place) → found 128 (lowest 128 (has known)) ≡ At p → Needs (count 128 (has known)) p ≡ fetching_by n A M F
+    pub told_some : (p : Place) → found 128 (lowest 128 (has known)) ≡ Some p → Some (record { number = count 128 (has known); next = p }) ≡ fetching_by n A M F
     unfolding fetching_by told
     told_some p h =
         let w = lowest_found 128 (has known) p h in

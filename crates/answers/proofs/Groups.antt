@@ -1,4 +1,7 @@
 -- Laws of a group's serials: how many go by, and one law for each answer. Assumes nothing.
+use Rattle.refusals.specs.declared.Refusal.{Refusal}
+use Rattle.refusals.specs.declared.Refusal.TheVariants as R
+use Rattle.std.specs.Prelude.{Option, Some, None, Result, Ok, Err}
 use mathlib.Core.Path.{◌≡◌, refl, sym, ap, ap₂, ◌∙◌}
 use mathlib.Core.Bool.{Bool, true, false, not, cond, ◌||◌}
 use mathlib.Core.List.{List}
@@ -11,10 +14,9 @@ use borrow.Author.Tests.{lt-ltb, le-ltb, eq-eqb, ne_eqb, ltb-true, ltb-false}
 use Rattle.serials.specs.Seconds.{counts_as, finding, finding_from}
 use Rattle.serials.specs.declared.Finding.{Finding}
 use Rattle.serials.proofs.Seconds.{finding_start}
-use Rattle.layouts.specs.declared.Reading.{Reading}
+use Rattle.layouts.specs.declared.Record.{Record}
 use Rattle.layouts.specs.Records.{reading_lone}
 use Rattle.answers.specs.Views.{size}
-use Rattle.answers.specs.declared.Giving.TheVariants.{Given, Refused}
 use Rattle.answers.specs.Groups.{roster_length, alias_in, found_among, is_found, giving}
 
 -- ---- how many serials go by
@@ -57,13 +59,13 @@ module _ (count : ℕ) (s : List ℕ) (m : ℕ) (e : m ≡ roster_length count (
 -- ---- finding and reading by the serials that go by
 
 module _ (count : ℕ) (serials seconds : List ℕ) (m n : ℕ) (e : m ≡ roster_length count (length serials)) (d : n ≡ roster_length count (length seconds)) where
-  pub found_by : (x : ℕ) (f : Finding) → f ≡ finding_from (counts_as (take m serials) (take n seconds)) 0 (take m serials) x → f ≡ found_among count serials seconds x
+  pub found_by : (x : ℕ) (f : Option Finding) → f ≡ finding_from (counts_as (take m serials) (take n seconds)) 0 (take m serials) x → f ≡ found_among count serials seconds x
   unfolding found_among alias_in
   found_by x f h =
       h ∙ finding_start (counts_as (take m serials) (take n seconds)) (take m serials) x
       ∙ ap₂ (λ (r s : List ℕ). finding (counts_as r s) r x) (take_roster count serials m e) (take_roster count seconds n d)
 
-  pub read_by : (b : List ℕ) (r : Reading) → r ≡ reading_lone (counts_as (take m serials) (take n seconds)) b → r ≡ reading_lone (alias_in count serials seconds) b
+  pub read_by : (b : List ℕ) (r : Result Record Refusal) → r ≡ reading_lone (counts_as (take m serials) (take n seconds)) b → r ≡ reading_lone (alias_in count serials seconds) b
   unfolding alias_in
   read_by b r h = h ∙ ap₂ (λ (r s : List ℕ). reading_lone (counts_as r s) b) (take_roster count serials m e) (take_roster count seconds n d)
 
@@ -74,27 +76,27 @@ pub second_past : (seconds : List ℕ) (p : ℕ) → length seconds ≤ p → fa
 second_past seconds p l = sym (ap (λ (x : ℕ). not (eqb x 0)) (get_or-eq_default seconds 0 l))
 
 module _ (count : ℕ) (serials seconds : List ℕ) (p x : ℕ) where
-  pub give_off : size count ≤ p → Refused 12 ≡ giving count serials seconds p x
+  pub give_off : size count ≤ p → Err R.OffRoster ≡ giving count serials seconds p x
   unfolding giving
   give_off l = rw (le-ltb p (size count) l)
 
   module _ (on : p < size count) where
-    pub give_zero : x ≡ 0 → Refused 4 ≡ giving count serials seconds p x
+    pub give_zero : x ≡ 0 → Err R.ZeroSerial ≡ giving count serials seconds p x
     unfolding giving
     give_zero z = rw (lt-ltb p (size count) on, eq-eqb x 0 z)
 
     module _ (z : ¬ (x ≡ 0)) where
       tested : (known has : Bool) → is_found (found_among count serials seconds x) ≡ known → not (eqb (get_or seconds p 0) 0) ≡ has
-          → giving count serials seconds p x ≡ cond (known || has) (Refused 16) Given
+          → giving count serials seconds p x ≡ cond (known || has) (Err R.KnownSerial) (Ok tt)
       unfolding giving
       tested known has e h = rw (lt-ltb p (size count) on, ne_eqb x 0 z, e, h)
 
-      pub give_known : is_found (found_among count serials seconds x) ≡ true → Refused 16 ≡ giving count serials seconds p x
+      pub give_known : is_found (found_among count serials seconds x) ≡ true → Err R.KnownSerial ≡ giving count serials seconds p x
       give_known e = sym (tested true (not (eqb (get_or seconds p 0) 0)) e refl)
 
       module _ (e : is_found (found_among count serials seconds x) ≡ false) where
-        pub give_has : not (eqb (get_or seconds p 0) 0) ≡ true → Refused 16 ≡ giving count serials seconds p x
+        pub give_has : not (eqb (get_or seconds p 0) 0) ≡ true → Err R.KnownSerial ≡ giving count serials seconds p x
         give_has h = sym (tested false true e h)
 
-        pub give_new : not (eqb (get_or seconds p 0) 0) ≡ false → Given ≡ giving count serials seconds p x
+        pub give_new : not (eqb (get_or seconds p 0) 0) ≡ false → Ok tt ≡ giving count serials seconds p x
         give_new h = sym (tested false false e h)

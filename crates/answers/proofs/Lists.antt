@@ -1,4 +1,7 @@
--- Listing: what bytes laid into the front of a buffer leave, both cases, and the byte of an answer by two sets. Assumes nothing.
+-- Result (Unit {0}) Refusal: what bytes laid into the front of a buffer leave, both cases, and the byte of an answer by two sets. Assumes nothing.
+use Rattle.refusals.specs.declared.Refusal.{Refusal}
+use Rattle.refusals.specs.declared.Refusal.TheVariants as R
+use Rattle.std.specs.Prelude.{Result, Ok, Err}
 use mathlib.Core.Path.{◌≡◌, refl, sym, ap, ◌∙◌}
 use mathlib.Core.Bool.{Bool, true, false, not, cond, ◌&&◌}
 use mathlib.Core.List.{List}
@@ -14,8 +17,6 @@ use Rattle.sets.specs.declared.PlaceSet.{PlaceSet}
 use Rattle.histories.specs.Histories.{Row, Accepted}
 use Rattle.histories.specs.Rule.{answer_with, open_answer}
 use Rattle.histories.specs.Kept.{blockers_by, answer_by, open_by}
-use Rattle.answers.specs.declared.Listing.{Listing}
-use Rattle.answers.specs.declared.Listing.TheVariants as S
 use Rattle.answers.specs.Lists.{answer_byte, bytes_from, laid, ListedAll, listed_in, byte_by}
 use Rattle.answers.proofs.Laying.{length_bytes, laid_same}
 
@@ -45,25 +46,25 @@ module _ (n : ℕ) (A : Accepted) (M F : Row) (out : List ℕ) where
   byte i = answer_byte (answer_by n A M F i)
 
   listed : Bool → ListedAll
-  listed t = cond t (record { answer = S.Laid; buffer = laid n byte out }) (record { answer = S.Refused 13; buffer = out })
+  listed t = cond t (record { answer = Ok tt; buffer = laid n byte out }) (record { answer = Err R.TooShort; buffer = out })
 
-  pub listed_short : length out < n → listed_in n A M F out ≡ record { answer = S.Refused 13; buffer = out }
+  pub listed_short : length out < n → listed_in n A M F out ≡ record { answer = Err R.TooShort; buffer = out }
   unfolding listed_in listed byte
   listed_short l = ap listed (lt-leb n (length out) l)
 
-  pub listed_laid : n ≤ length out → listed_in n A M F out ≡ record { answer = S.Laid; buffer = laid n (λ i. answer_byte (answer_by n A M F i)) out }
+  pub listed_laid : n ≤ length out → listed_in n A M F out ≡ record { answer = Ok tt; buffer = laid n (λ i. answer_byte (answer_by n A M F i)) out }
   unfolding listed_in listed byte
   listed_laid l = ap listed (le-leb n (length out) l)
 
   -- ---- what the code gives
 
-  abbrev pub Gives : Listing → List ℕ → Type 0
+  abbrev pub Gives : Result (Unit {0}) Refusal → List ℕ → Type 0
   Gives a after = (a ≡ (listed_in n A M F out).answer) × (after ≡ (listed_in n A M F out).buffer)
 
   said : {x : ListedAll} → listed_in n A M F out ≡ x → Gives x.answer x.buffer
   said e = (ap (λ (y : ListedAll). y.answer) (sym e), ap (λ (y : ListedAll). y.buffer) (sym e))
 
-  pub list_short : length out < n → Gives (S.Refused 13) out
+  pub list_short : length out < n → Gives (Err R.TooShort) out
   list_short l = said (listed_short l)
 
   -- the byte of a place by the open ones, and by those that are neither mourned nor open
@@ -78,7 +79,7 @@ module _ (n : ℕ) (A : Accepted) (M F : Row) (out : List ℕ) where
       go false false = refl
 
   pub list_done : (O U L : PlaceSet) → has O ≡ open_by n A M F → has U ≡ difference (below n) M → has L ≡ difference (has U) (has O)
-      → (m : ℕ) → m ≡ n → m ≤ length out → (after : List ℕ) → after ≡ laid m (byte_by (has L) (has O)) out → Gives S.Laid after
+      → (m : ℕ) → m ≡ n → m ≤ length out → (after : List ℕ) → after ≡ laid m (byte_by (has L) (has O)) out → Gives (Ok tt) after
   unfolding byte
   list_done O U L o u l m is h after e =
       let g = said (listed_laid (rw is at h)) in

@@ -1,4 +1,7 @@
 -- One law for each way in which judging returns. Assumes nothing.
+use Rattle.refusals.specs.declared.Refusal.{Refusal}
+use Rattle.refusals.specs.declared.Refusal.TheVariants as refusal
+use Rattle.std.specs.Prelude.{Result, Ok, Err}
 use mathlib.Core.Path.{◌≡◌, sym, ap, ap₂, ◌∙◌}
 use mathlib.Core.Bool.{Bool, true, false, cond, ◌&&◌}
 use mathlib.Core.List.{List}
@@ -27,14 +30,14 @@ module _ (count : ℕ) (R U : Places) (w : List ℕ) (p : ℕ) (k : Kind) (M : R
   abbrev A : Accepted
   A = accepted_in count R U w
 
-  pub entering_back : A.returned p ≡ true → cond (same_kind k (A.kind p) && same (size count) M (A.row p)) O.Repeated (O.Refused 10) ≡ entering count R U w p k M
+  pub entering_back : A.returned p ≡ true → cond (same_kind k (A.kind p) && same (size count) M (A.row p)) (Ok O.Repeated) (Err refusal.OtherRecord) ≡ entering count R U w p k M
   unfolding entering
-  entering_back e = sym (ap (λ (b : Bool). cond b (cond (same_kind k (A.kind p) && same (size count) M (A.row p)) O.Repeated (O.Refused 10)) (cond (accepts (size count) A p k M) O.Taken (O.Refused 11))) e)
+  entering_back e = sym (ap (λ (b : Bool). cond b (cond (same_kind k (A.kind p) && same (size count) M (A.row p)) (Ok O.Repeated) (Err refusal.OtherRecord)) (cond (accepts (size count) A p k M) (Ok O.Taken) (Err refusal.NoHistory))) e)
 
-  pub entering_new : A.returned p ≡ false → (t : Bool) → accepts (size count) A p k M ≡ t → cond t O.Taken (O.Refused 11) ≡ entering count R U w p k M
+  pub entering_new : A.returned p ≡ false → (t : Bool) → accepts (size count) A p k M ≡ t → cond t (Ok O.Taken) (Err refusal.NoHistory) ≡ entering count R U w p k M
   unfolding entering
   entering_new e t a =
-      sym (ap₂ (λ (b t : Bool). cond b (cond (same_kind k (A.kind p) && same (size count) M (A.row p)) O.Repeated (O.Refused 10)) (cond t O.Taken (O.Refused 11))) e a)
+      sym (ap₂ (λ (b t : Bool). cond b (cond (same_kind k (A.kind p) && same (size count) M (A.row p)) (Ok O.Repeated) (Err refusal.OtherRecord)) (cond t (Ok O.Taken) (Err refusal.NoHistory))) e a)
 
 -- the places back, as far as the roster goes
 back_is : (count : ℕ) (U : Places) (w : List ℕ) (all r back : PlaceSet) → has all ≡ kept (below count) → has back ≡ intersection (has all) (has r) → has back ≡ (accepted_in count (has r) U w).returned
@@ -80,10 +83,10 @@ same_cut count R U w p all m named row b e f g = both_ways _ _ to from
 
 -- the kind or the mourned set is another, or both are the same
 module _ (k : Kind) (A : Accepted) (n p : ℕ) (M : Row) where
-  pub again_kind : same_kind k (A.kind p) ≡ false → O.Refused 10 ≡ cond (same_kind k (A.kind p) && same n M (A.row p)) O.Repeated (O.Refused 10)
+  pub again_kind : same_kind k (A.kind p) ≡ false → Err refusal.OtherRecord ≡ cond (same_kind k (A.kind p) && same n M (A.row p)) (Ok O.Repeated) (Err refusal.OtherRecord)
   again_kind e = rw e
 
-  pub again_row : same_kind k (A.kind p) ≡ true → (t : Bool) → same n M (A.row p) ≡ t → cond t O.Repeated (O.Refused 10) ≡ cond (same_kind k (A.kind p) && same n M (A.row p)) O.Repeated (O.Refused 10)
+  pub again_row : same_kind k (A.kind p) ≡ true → (t : Bool) → same n M (A.row p) ≡ t → cond t (Ok O.Repeated) (Err refusal.OtherRecord) ≡ cond (same_kind k (A.kind p) && same n M (A.row p)) (Ok O.Repeated) (Err refusal.OtherRecord)
   again_row e t f = rw (e, f)
 
 pub kind_is : (count : ℕ) (R U : Places) (w : List ℕ) (p : ℕ) (k first : Kind) (s t : Bool) → first ≡ kind_in U p → s ≡ same_kind k first → s ≡ t → same_kind k ((accepted_in count R U w).kind p) ≡ t
@@ -93,7 +96,7 @@ kind_is count R U w p k first s t e f g = sym (ap (same_kind k) e) ∙ sym f ∙
 -- ---- a record that was read
 
 module _ (count : ℕ) (s : List ℕ) (R U : Places) (w b : List ℕ) (x : Record) (t : List ℕ) (f : t ≡ take (size count) s) where
-  pub judged_roster : roster_is b x.roster x.count t ≡ false → O.Refused 9 ≡ judgement count s R U w b x
+  pub judged_roster : roster_is b x.roster x.count t ≡ false → Err refusal.OtherGroup ≡ judgement count s R U w b x
   unfolding judgement
   judged_roster g = rw (← f, g)
 

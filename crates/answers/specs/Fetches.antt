@@ -1,12 +1,11 @@
 -- How many places a crew has to fetch at most, and which next: document 02, [6], of a roster of length n with the accepted records A.
 -- Assumes nothing.
-use Rattle.std.specs.Prelude.{◌≡◌, true, false, cond, ◌&&◌, ℕ}
+use Rattle.std.specs.Prelude.{◌≡◌, true, false, cond, Option, Some, None, ◌&&◌, ℕ}
 use Rattle.sets.specs.Sets.{below, difference, any, count, lowest}
 use Rattle.histories.specs.Histories.{Row, History, Accepted, Fits}
 use Rattle.histories.specs.Rule.{unmourned, blockers}
 use Rattle.histories.specs.Kept.{blockers_by}
 use Rattle.answers.specs.declared.Fetching.{Fetching}
-use Rattle.answers.specs.declared.Fetching.TheVariants.{Settled, Needs}
 
 -- ---- what it means
 
@@ -28,9 +27,9 @@ blocking n A b = any n (λ i. unmourned n A i && blockers n A i b)
 unfoldable pub blocking_by : ℕ → Accepted → Row → Row → Row
 blocking_by n A M F b = any n (λ i. difference (below n) M i && blockers_by n A M F i b)
 
--- what is told where S are the places that block: how many they are, and the lowest of them; where there is none, settled
-unfoldable pub told : ℕ → Row → Fetching
-told n S = cond (any n S) (Needs (count n S) (record { 0 = lowest n S })) Settled
+-- what is told where S are the places that block: how many they are, and the lowest of them; where there is none, nothing: it is settled
+unfoldable pub told : ℕ → Row → Option Fetching
+told n S = cond (any n S) (Some (record { number = count n S; next = record { 0 = lowest n S } })) None
 
-unfoldable pub fetching_by : ℕ → Accepted → Row → Row → Fetching
+unfoldable pub fetching_by : ℕ → Accepted → Row → Row → Option Fetching
 fetching_by n A M F = told n (blocking_by n A M F)

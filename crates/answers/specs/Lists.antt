@@ -1,12 +1,12 @@
 -- What listing gives, and the lent buffer afterwards, by the parts of a recovery: its roster's length n, its accepted records A, its mourned
 -- places M and the places F before its returned full ones. Assumes nothing.
-use Rattle.std.specs.Prelude.{cond, List, [], ◌∷◌, ◌++◌, ℕ, zero, suc, ◌+◌, ◌*◌, length, drop, leb}
+use Rattle.std.specs.Prelude.{cond, Result, Ok, Err, List, [], ◌∷◌, ◌++◌, ℕ, zero, suc, ◌+◌, ◌*◌, length, drop, leb}
 use Rattle.sets.specs.Sets.{Places}
 use Rattle.histories.specs.Histories.{Row, Accepted}
 use Rattle.histories.specs.Rule.{Answer, is_last, not_last, is_open}
 use Rattle.histories.specs.Kept.{answer_by}
-use Rattle.answers.specs.declared.Listing.{Listing}
-use Rattle.answers.specs.declared.Listing.TheVariants as S
+use Rattle.refusals.specs.declared.Refusal.{Refusal}
+use Rattle.refusals.specs.declared.Refusal.TheVariants as R
 
 -- document 02, [4]: the byte of an answer
 unfoldable pub answer_byte : Answer → ℕ
@@ -25,15 +25,15 @@ laid n byte out = bytes_from n 0 byte ++ drop n out
 
 -- the answer, and the buffer afterwards
 pub record ListedAll : Type 0 where
-  pub answer : Listing
+  pub answer : Result (Unit {0}) Refusal
   pub buffer : List ℕ
 
 -- 13 for a buffer shorter than the roster, which stays as it is; else the byte of each place's answer
 unfoldable pub listed_in : ℕ → Accepted → Row → Row → List ℕ → ListedAll
 listed_in n A M F out =
     cond (leb n (length out))
-    (record { answer = S.Laid; buffer = laid n (λ i. answer_byte (answer_by n A M F i)) out })
-    (record { answer = S.Refused 13; buffer = out })
+    (record { answer = Ok tt; buffer = laid n (λ i. answer_byte (answer_by n A M F i)) out })
+    (record { answer = Err R.TooShort; buffer = out })
 
 -- ---- how the bytes are made from two sets
 

@@ -6,7 +6,7 @@
 use sets::{Place, PlaceSet};
 
 // Document 01's three answers for a place.
-#[derive(Clone, Copy)]
+#[derive(Clone, Copy, Debug, PartialEq, Eq)]
 pub enum Answer {
     Last,
     NotLast,
@@ -20,39 +20,23 @@ pub struct Walked {
     pub seen: PlaceSet,
 }
 
-// Whether a place may be given a second serial, or which refusal that meets.
-#[derive(Clone, Copy)]
-pub enum Giving {
-    Given,
-    Refused(u8),
-}
-
-// Both histories are laid down, or the place is decided, or it is refused by a number.
-#[derive(Clone, Copy)]
+// Both histories are laid down, or the place is decided.
+#[derive(Clone, Copy, Debug, PartialEq, Eq)]
 pub enum Showing {
     Shown,
     Decided,
-    Refused(u8),
 }
 
-// The answers are laid down, or the buffer is refused by a number.
-#[derive(Clone, Copy)]
-pub enum Listing {
-    Laid,
-    Refused(u8),
+// How many fetches surely suffice, and the place to fetch next.
+#[derive(Clone, Copy, Debug, PartialEq, Eq)]
+pub struct Fetching {
+    pub number: usize,
+    pub next: Place,
 }
 
-// Nothing is open; or so many fetches surely suffice, and this place is next.
-#[derive(Clone, Copy)]
-pub enum Fetching {
-    Settled,
-    Needs(usize, Place),
-}
-
-// A record is taken, or it is the same one again, or it is refused by a number.
-#[derive(Clone, Copy)]
+// A record is taken, or it is the same one again.
+#[derive(Clone, Copy, Debug, PartialEq, Eq)]
 pub enum Reply {
     Taken,
     Repeated,
-    Refused(u8),
 }

@@ -5,12 +5,13 @@ ghost use Rattle.std.specs.Prelude.{◌≡◌, ◌<◌};
 ghost use Rattle.sets.specs.PlaceSets.{has};
 ghost use Rattle.calls.specs.Promises.{asked, settled_of, fetching_of, unmourned_of, unmourned_absent_of, unmourned_count_of, listed_of};
 
-use answers::{Answer, Fetching, Listing};
-use calls::{Asked, Recovery};
+use answers::{Answer, Fetching};
+use calls::Recovery;
+use refusals::Refusal;
 use sets::{Place, PlaceSet};
 
 // Asks for a place: 12, or the answer.
-pub fn ask(r: Recovery, place: Place) -> Asked
+pub fn ask(r: Recovery, place: Place) -> Result<Answer, Refusal>
     ensures { result ≡ asked r place.0 }
 {
     let count = r.count;
@@ -20,18 +21,13 @@ pub fn ask(r: Recovery, place: Place) -> Asked
     let earlier = r.earlier;
     let n = standings::size(count);
     if n <= place.0 {
-        return Asked::Refused(12);
+        return Err(Refusal::OffRoster);
     }
-    let answer = blocking::answer_for(&r.rows, returned, full, mourned, earlier, count, place);
-    match answer {
-        Answer::Last => Asked::Last,
-        Answer::NotLast => Asked::NotLast,
-        Answer::Open => Asked::Open,
-    }
+    Ok(blocking::answer_for(&r.rows, returned, full, mourned, earlier, count, place))
 }
 
 // Lists the answers of all places into a lent buffer, a byte each, as asking for them one by one would give: 13, or laid down.
-pub fn list(r: Recovery, out: &mut [u8]) -> Listing
+pub fn list(r: Recovery, out: &mut [u8]) -> Result<(), Refusal>
     ensures value { result ≡ (listed_of r out.old).answer }
     ensures out_after { out.new ≡ (listed_of r out.old).buffer }
 {
@@ -56,7 +52,7 @@ pub fn settled(r: Recovery) -> bool
 
 // How many fetches surely suffice until no place is open, and the place to fetch next; or that none is open.
 #[inline(always)]
-pub fn to_fetch(r: Recovery) -> Fetching
+pub fn to_fetch(r: Recovery) -> Option<Fetching>
     ensures { result ≡ fetching_of r }
 {
     let returned = r.returned;

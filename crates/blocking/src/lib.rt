@@ -10,7 +10,7 @@ ghost use Rattle.answers.specs.Views.{size, accepted_in, recorded_in, answer_of}
 
 use answers::Answer;
 use rows::Rows;
-use sets::{Found, Place, PlaceSet};
+use sets::{Place, PlaceSet};
 
 // The same, but for one place.
 fn unheard_others(returned: PlaceSet, earlier: PlaceSet, count: usize, place: Place) -> PlaceSet
@@ -115,15 +115,6 @@ pub fn settled(
 ) -> bool
     ensures { result ≡ kept.settled_by (size count) (accepted_in count (has returned) (has full) rows.now) (has mourned) (has earlier) }
 {
-    let mut unasked = standings::unmourned(mourned, count);
-    loop {
-        let found = places::lowest(unasked);
-        let Found::At(p) = found else {
-            return true;
-        };
-        if blocked(rows, returned, full, mourned, earlier, count, p) {
-            return false;
-        }
-        unasked = places::without(unasked, p);
-    }
+    let unasked = standings::unmourned(mourned, count);
+    places::members(unasked).all(|p| !blocked(rows, returned, full, mourned, earlier, count, p))
 }

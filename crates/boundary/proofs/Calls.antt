@@ -1,6 +1,9 @@
 -- What each call on a recovery in the caller's memory gives: one law for each way in which the code returns. Assumes nothing.
+use Rattle.refusals.specs.declared.Refusal.{Refusal}
+use Rattle.refusals.specs.Numbers.{number}
+use Rattle.std.specs.Prelude.{Option, Result, Ok, Err}
 use mathlib.Core.Path.{◌≡◌, refl, sym, ap, ◌∙◌}
-use mathlib.Core.Bool.{Bool, true, false, cond}
+use mathlib.Core.Bool.{Bool, true, false}
 use mathlib.Core.List.{List}
 use Prim.Native.Nat.{ℕ, ◌*◌, ◌≤◌, ◌<◌}
 use lib.ListN.{length, set, get_or}
@@ -16,20 +19,16 @@ use Rattle.serials.specs.declared.Finding.{Finding}
 use Rattle.rows.specs.Rows.{rows_of, history_in}
 use Rattle.answers.specs.Views.{size, accepted_in, answer_of}
 use Rattle.answers.specs.declared.Answer.{Answer}
-use Rattle.answers.specs.declared.Giving.{Giving}
-use Rattle.answers.specs.declared.Giving.TheVariants as Y
 use Rattle.answers.specs.Groups.{alias_in, found_among, giving}
 use Rattle.answers.specs.Checks.{off_roster}
 use Rattle.answers.specs.Shows.{Shown, shown_in}
-use Rattle.answers.specs.declared.Listing.{Listing}
 use Rattle.answers.specs.Lists.{ListedAll, listed_in}
 use Rattle.answers.specs.declared.Showing.{Showing}
 use Rattle.calls.specs.declared.Recovery.{Recovery}
 use Rattle.calls.specs.declared.Gave.{Gave}
-use Rattle.calls.specs.declared.Checked.TheVariants as C
 use Rattle.calls.specs.Promises.{size_of, roster_of, seconds_of, alias_of, accepted_of, asked, shown, checked, settled_of, unmourned_of, unmourned_absent_of, unmourned_count_of, found_in, with_second, gave_as, given, listed_of}
 use Rattle.calls.proofs.Calls.{asked_off, checked_short, checked_off, checked_on}
-use Rattle.calls.proofs.Gives.{asked_of, asked_on, absent_set, count_set}
+use Rattle.calls.proofs.Gives.{asked_on, absent_set, count_set}
 use Rattle.boundary.specs.declared.Head.{Head}
 use Rattle.boundary.specs.declared.FoundNow.{FoundNow}
 use Rattle.boundary.specs.Words.{set_at, set_words, yes_code}
@@ -97,7 +96,7 @@ module _ (head : List ℕ) (h : Head) (says : Says head h) (serials seconds rows
   ask_off p l = ap asked_code (sym (asked_off parts refl p l)) ∙ ap (λ (r : Recovery). asked_code (asked r p)) in_memory
 
   pub ask_on : (p : ℕ) → p < size h.count → (a : Answer) → a ≡ answer_of (kept.answer_by (size h.count) accepted (has h.mourned) (has h.earlier) p)
-      → asked_code (asked_of a) ≡ asked_code (asked (recovery_in head serials seconds rows) p)
+      → asked_code (Ok a) ≡ asked_code (asked (recovery_in head serials seconds rows) p)
   unfolding size_of accepted_of
   ask_on p l a e = ap asked_code (asked_on parts (size h.count) refl p l a e) ∙ ap (λ (r : Recovery). asked_code (asked r p)) in_memory
 
@@ -134,7 +133,7 @@ module _ (head : List ℕ) (h : Head) (says : Says head h) (serials seconds rows
 
     pub check_on : 16 * size h.count ≤ length lent → off_roster (size h.count) (history_in (size h.count) lent) ≡ false
         → (t : Bool) → rule.fits_test (size h.count) accepted (history_in (size h.count) lent) ≡ t
-        → checked_code (cond t C.Fits C.FitsNot) ≡ checked_code (checked (recovery_in head serials seconds rows) lent)
+        → checked_code (Ok t) ≡ checked_code (checked (recovery_in head serials seconds rows) lent)
     unfolding size_of accepted_of
     check_on l o t f = ap checked_code (sym (checked_on parts refl lent l o t f)) ∙ ap (λ (r : Recovery). checked_code (checked r lent)) in_memory
 
@@ -152,33 +151,33 @@ module _ (head : List ℕ) (h : Head) (says : Says head h) (serials seconds rows
 
   -- ---- the place of a serial
 
-  pub found_is : (x : ℕ) (e : FoundNow) (f : Finding) → e ≡ found_of f → f ≡ found_among h.count serials seconds x → e ≡ found_of (found_in (recovery_in head serials seconds rows) x)
+  pub found_is : (x : ℕ) (e : FoundNow) (f : Option Finding) → e ≡ found_of f → f ≡ found_among h.count serials seconds x → e ≡ found_of (found_in (recovery_in head serials seconds rows) x)
   unfolding found_in alias_of roster_of seconds_of size_of found_among alias_in
   found_is x e f c is = c ∙ ap found_of is ∙ ap (λ (r : Recovery). found_of (found_in r x)) in_memory
 
   -- ---- giving a place a second serial
 
-  module _ (p x : ℕ) (v : Giving) (is : v ≡ giving h.count serials seconds p x) where
+  module _ (p x : ℕ) (v : Result (Unit {0}) Refusal) (is : v ≡ giving h.count serials seconds p x) where
     given_is : gave_as parts p x v ≡ given (recovery_in head serials seconds rows) p x
     unfolding given
     given_is = ap (gave_as parts p x) is ∙ ap (λ (r : Recovery). given r p x) in_memory
 
-    pub gives_given : v ≡ Y.Given → (t : List ℕ) → t ≡ set seconds p x
+    pub gives_given : v ≡ Ok tt → (t : List ℕ) → t ≡ set seconds p x
         → (0 ≡ giving_code (given (recovery_in head serials seconds rows) p x).answer) × (t ≡ (given (recovery_in head serials seconds rows) p x).recovery.seconds)
     unfolding gave_as with_second giving_code
     gives_given e t f =
-        let g : gave_as parts p x Y.Given ≡ given (recovery_in head serials seconds rows) p x = ap (gave_as parts p x) (sym e) ∙ given_is in
+        let g : gave_as parts p x (Ok tt) ≡ given (recovery_in head serials seconds rows) p x = ap (gave_as parts p x) (sym e) ∙ given_is in
         (ap (λ (w : Gave). giving_code w.answer) g, f ∙ ap (λ (w : Gave). w.recovery.seconds) g)
 
-    pub gives_refused : (j : ℕ) → v ≡ Y.Refused j
-        → (j ≡ giving_code (given (recovery_in head serials seconds rows) p x).answer) × (seconds ≡ (given (recovery_in head serials seconds rows) p x).recovery.seconds)
+    pub gives_refused : (j : Refusal) → v ≡ Err j
+        → (number j ≡ giving_code (given (recovery_in head serials seconds rows) p x).answer) × (seconds ≡ (given (recovery_in head serials seconds rows) p x).recovery.seconds)
     unfolding gave_as giving_code
     gives_refused j e =
-        let g : gave_as parts p x (Y.Refused j) ≡ given (recovery_in head serials seconds rows) p x = ap (gave_as parts p x) (sym e) ∙ given_is in
+        let g : gave_as parts p x (Err j) ≡ given (recovery_in head serials seconds rows) p x = ap (gave_as parts p x) (sym e) ∙ given_is in
         (ap (λ (w : Gave). giving_code w.answer) g, ap (λ (w : Gave). w.recovery.seconds) g)
 
 -- the number and the buffer
-pub lists_are : (head : List ℕ) (h : Head) → Says head h → (rows out : List ℕ) (x : Listing) (c : ℕ) (after : List ℕ) → c ≡ listing_code x
+pub lists_are : (head : List ℕ) (h : Head) → Says head h → (rows out : List ℕ) (x : Result (Unit {0}) Refusal) (c : ℕ) (after : List ℕ) → c ≡ listing_code x
     → (x ≡ (listed_at h rows out).answer) × (after ≡ (listed_at h rows out).buffer)
     → ((serials seconds : List ℕ) → c ≡ listing_code (listed_of (recovery_in head serials seconds rows) out).answer)
     × ((serials seconds : List ℕ) → after ≡ (listed_of (recovery_in head serials seconds rows) out).buffer)
@@ -189,7 +188,7 @@ lists_are head h says rows out x c after code (e, f) =
     is t u = listed_is head h says t u rows out
 
 -- the number and both buffers
-pub shows_are : (head : List ℕ) (h : Head) → Says head h → (rows : List ℕ) (p : ℕ) (a b : List ℕ) (x : Showing) (c : ℕ) (first second : List ℕ) → c ≡ showing_code x
+pub shows_are : (head : List ℕ) (h : Head) → Says head h → (rows : List ℕ) (p : ℕ) (a b : List ℕ) (x : Result Showing Refusal) (c : ℕ) (first second : List ℕ) → c ≡ showing_code x
     → (x ≡ (shown_at h rows p a b).answer) × ((first ≡ (shown_at h rows p a b).first) × (second ≡ (shown_at h rows p a b).second))
     → ((serials seconds : List ℕ) → c ≡ showing_code (shown (recovery_in head serials seconds rows) p a b).answer)
     × (((serials seconds : List ℕ) → first ≡ (shown (recovery_in head serials seconds rows) p a b).first) × ((serials seconds : List ℕ) → second ≡ (shown (recovery_in head serials seconds rows) p a b).second))

@@ -1,14 +1,14 @@
 -- A day at the boundary to C: four words, 128 serials and the rows in the caller's memory, and document 01's answers as numbers.
 -- Assumes nothing.
-use Rattle.std.specs.Prelude.{cond, List, [], ◌∷◌, ℕ, get_or, eqb}
+use Rattle.refusals.specs.declared.Refusal.{Refusal}
+use Rattle.refusals.specs.Numbers.{number}
+use Rattle.std.specs.Prelude.{cond, Result, Ok, Err, List, [], ◌∷◌, ℕ, get_or, eqb}
 use Rattle.sets.specs.declared.PlaceSet.{PlaceSet}
 use Rattle.histories.specs.declared.Kind.{Kind}
 use Rattle.histories.specs.declared.Kind.TheVariants.{Full, Short}
 use Rattle.layouts.specs.Layout.{kind_byte}
 use Rattle.executions.specs.declared.Day.{Day}
 use Rattle.executions.specs.declared.Event.{Event}
-use Rattle.executions.specs.declared.Opening as day
-use Rattle.executions.specs.declared.Opening.TheVariants as B
 use Rattle.executions.specs.declared.Played.{Played}
 use Rattle.executions.specs.Promises.{begun, happened, stepped, played}
 use Rattle.boundary.specs.Words.{set_at}
@@ -35,6 +35,11 @@ day_head_of k count s = kind_byte k ∷ count ∷ s.low ∷ s.high ∷ []
 unfoldable pub with_stopped : List ℕ → PlaceSet → List ℕ
 with_stopped head s = get_or head 0 0 ∷ get_or head 1 0 ∷ s.low ∷ s.high ∷ []
 
+-- an answer as a number: 0 where it was done, else that of the refusal
+unfoldable pub done_code : Result (Unit {0}) Refusal → ℕ
+done_code (Ok u) = 0
+done_code (Err j) = number j
+
 -- what a call answers, and the caller's memory after it
 pub record DayHeld : Type 0 where
   pub code : ℕ
@@ -44,9 +49,9 @@ pub record DayHeld : Type 0 where
 
 -- ---- opening: the caller's memory is written only where it is opened
 
-unfoldable pub begun_as : day.Opening → Day → List ℕ → List ℕ → List ℕ → DayHeld
-begun_as B.Opened d head serials rows = record { code = 0; head = day_head_of d.kind d.count d.stopped; serials = d.serials; rows = d.rows }
-begun_as (B.Refused j) d head serials rows = record { code = j; head = head; serials = serials; rows = rows }
+unfoldable pub begun_as : Result (Unit {0}) Refusal → Day → List ℕ → List ℕ → List ℕ → DayHeld
+begun_as (Ok u) d head serials rows = record { code = 0; head = day_head_of d.kind d.count d.stopped; serials = d.serials; rows = d.rows }
+begun_as (Err j) d head serials rows = record { code = number j; head = head; serials = serials; rows = rows }
 
 unfoldable pub begun_held : ℕ → List ℕ → List ℕ → List ℕ → List ℕ → DayHeld
 begun_held kind s head serials rows = begun_as (begun kind s).answer (begun kind s).day head serials rows
@@ -59,7 +64,7 @@ event_of kind place other = record { kind = kind; place = record { 0 = place }; 
 unfoldable pub happened_held : List ℕ → List ℕ → List ℕ → Event → DayHeld
 happened_held head serials rows e =
     record {
-      code = (happened (day_in head serials rows) e).refusal;
+      code = done_code (happened (day_in head serials rows) e).answer;
       head = with_stopped head (happened (day_in head serials rows) e).day.stopped;
       serials = serials;
       rows = (happened (day_in head serials rows) e).day.rows;
@@ -82,14 +87,11 @@ events_in [] = []
 events_in (e ∷ es) = event_in e ∷ events_in es
 
 unfoldable pub played_as : DayNow → Played → PlayedNow
-played_as d p = record { count = p.count; refusal = p.refusal; day = day_now d p.day }
+played_as d p = record { count = p.count; refusal = done_code p.answer; day = day_now d p.day }
 
 unfoldable pub played_now : DayNow → List EventNow → PlayedNow
 played_now d es = played_as d (played (day_of d) (events_in es))
 
--- one event after those played
-unfoldable pub played_of : PlayedNow → Played
-played_of p = record { count = p.count; refusal = p.refusal; day = day_of p.day }
-
+-- one event after those played: after a refusal nothing more is played
 unfoldable pub stepped_now : PlayedNow → EventNow → PlayedNow
-stepped_now p e = played_as p.day (stepped (played_of p) (event_in e))
+stepped_now p e = cond (eqb p.refusal 0) (played_as p.day (stepped (record { count = p.count; answer = Ok tt; day = day_of p.day }) (event_in e))) p

@@ -1,8 +1,9 @@
 -- What the libraries for C have in common: sets of places as words, tests as numbers, and where a written record ends. Assumes nothing.
+use Rattle.refusals.specs.declared.Refusal.{Refusal}
+use Rattle.std.specs.Prelude.{Result, Ok, Err}
+use Rattle.refusals.specs.Numbers.{number}
 use Rattle.std.specs.Prelude.{Bool, cond, List, [], ◌∷◌, ℕ, ◌+◌, get_or}
 use Rattle.sets.specs.declared.PlaceSet.{PlaceSet}
-use Rattle.layouts.specs.declared.Writing.{Writing}
-use Rattle.layouts.specs.declared.Writing.TheVariants as W
 use Rattle.boundary.specs.declared.End.{End}
 
 -- two words of places from a position on
@@ -17,6 +18,6 @@ unfoldable pub yes_code : Bool → ℕ
 yes_code b = cond b 1 0
 
 -- the refusal, or 0 and where the record ends
-unfoldable pub end_of : Writing → End
-end_of (W.Next e) = record { refusal = 0; next = e }
-end_of (W.Refused j) = record { refusal = j; next = 0 }
+unfoldable pub end_of : Result ℕ Refusal → End
+end_of (Ok e) = record { refusal = 0; next = e }
+end_of (Err j) = record { refusal = number j; next = 0 }

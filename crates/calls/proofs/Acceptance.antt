@@ -1,5 +1,8 @@
 -- The example of document 01, call by call, each with the outcome that it computes to, and what its records leave; after it the same group
 -- with second serials and records of both kinds (document 02, [2] and [3]). Assumes nothing.
+use Rattle.refusals.specs.declared.Refusal.{Refusal}
+use Rattle.refusals.specs.declared.Refusal.TheVariants as R
+use Rattle.std.specs.Prelude.{Option, Some, None, Result, Ok, Err}
 use mathlib.Core.Path.{◌≡◌, refl}
 use mathlib.Core.List.{List, [], ◌∷◌, ◌++◌, map}
 use Prim.Native.Nat.{ℕ}
@@ -14,7 +17,7 @@ use Rattle.rows.specs.Rows.{no_rows, row_at, rows_of, with_row, bytes_from, row_
 use Rattle.layouts.specs.Layout as L
 use Rattle.layouts.specs.FaultCases as F
 use Rattle.layouts.specs.Records.{same_list, unwritten, put_at, written_at}
-use Rattle.answers.specs.Views.{size, kind_in, accepted_in}
+use Rattle.answers.specs.Views.{size, kind_in, accepted_in, answer_of}
 use Rattle.answers.specs.Groups.{is_found, alias_in, found_among, giving}
 use Rattle.answers.specs.Checks.{off_roster}
 use Rattle.answers.specs.Shows.{unshown, replaced, shown_open, shown_as, shown_in}
@@ -179,7 +182,7 @@ unfolding serials U.opening_says C.opened C.opened_as listed place_of holds firs
 opening = refl
 
 pub listing : U.run (C.opened serials).recovery (map call_of lines) ≡ map outcome_of lines
-unfolding serials group record_101 record_104 full_101 other_101 circle_102 second_104 twice_102 itself_103 other_roster second_102 record_102 lacking_103 full_103 short_103 row first_rows second_rows call_of outcome_of lines U.run U.next U.outcome U.offer_says U.asked_says U.showing_says U.checked_says U.writing_says U.found_says U.giving_says U.fetching_says U.listing_says U.shown_gives U.written_gives U.listed_gives I.answer_byte I.bytes_from I.laid I.listed_in C.listed_of C.size_of C.roster_of C.seconds_of C.alias_of C.accepted_of C.fresh C.opened_as C.opened same_kind C.of_group C.saying C.keeping_full C.keeping_row C.keeping C.answered entering C.entered C.judged C.offered_as C.offered C.answer_at C.asked_as C.asked unshown replaced shown_open shown_as shown_in C.shown off_roster C.checked_rows C.checked C.settled_of blocking_by told C.blocking_of C.fetching_of C.unmourned_of C.unmourned_count_of C.found_in C.with_second C.gave_as C.given is_found alias_in found_among giving C.record_of C.written_of size kind_in accepted_in L.then L.check L.byte L.serial L.known_kind L.kind_of L.kind_section L.roster_serials L.roster_section L.head_section L.mourned_serials L.mourned_section L.stored L.lone L.kind_byte L.serial_bytes L.serials_bytes L.chosen L.layout same_list unwritten put_at written_at place_of holds is_second counts_as stands_for finding first_repeat listed no_rows row_at rows_of with_row bytes_from row_bytes put_row row_in history_in rows_from laid bit has word packed any all subset same count lowest H.recorded H.mourned H.reach H.before H.is_full H.full_back H.answer_with H.open_answer H.none_open H.agrees H.accepts H.duty_met H.fits_test K.ruled_out_by K.blockers_by K.answer_by K.settled_by
+unfolding serials group record_101 record_104 full_101 other_101 circle_102 second_104 twice_102 itself_103 other_roster second_102 record_102 lacking_103 full_103 short_103 row first_rows second_rows call_of outcome_of lines U.run U.next U.outcome U.offer_says U.asked_says U.showing_says U.checked_says U.writing_says U.found_says U.giving_says U.fetching_says U.listing_says U.shown_gives U.written_gives U.listed_gives I.answer_byte I.bytes_from I.laid I.listed_in C.listed_of C.size_of C.roster_of C.seconds_of C.alias_of C.accepted_of C.fresh C.opened_as C.opened same_kind C.of_group C.saying C.keeping_full C.keeping_row C.keeping C.answered entering C.entered C.judged C.offered_as C.offered C.answer_at C.asked_as answer_of C.asked unshown replaced shown_open shown_as shown_in C.shown off_roster C.checked_rows C.checked C.settled_of blocking_by told C.blocking_of C.fetching_of C.unmourned_of C.unmourned_count_of C.found_in C.with_second C.gave_as C.given alias_in found_among giving C.record_of C.written_of size kind_in accepted_in L.then L.check L.byte L.serial L.known_kind L.kind_of L.kind_section L.roster_serials L.roster_section L.head_section L.mourned_serials L.mourned_section L.stored L.lone L.kind_byte L.serial_bytes L.serials_bytes L.chosen L.layout same_list unwritten put_at written_at place_of holds is_second counts_as stands_for finding first_repeat listed no_rows row_at rows_of with_row bytes_from row_bytes put_row row_in history_in rows_from laid bit has word packed any all subset same count lowest H.recorded H.mourned H.reach H.before H.is_full H.full_back H.answer_with H.open_answer H.none_open H.agrees H.accepts H.duty_met H.fits_test K.ruled_out_by K.blockers_by K.answer_by K.settled_by
 listing = refl
 
 -- 102 alone is back and heard 101: of 102, which is open, the second history has both in the row of 103, the lowest who may have heard it
@@ -191,7 +194,7 @@ before_lines =
     ∷ []
 
 pub listing_before : U.run (C.opened serials).recovery (map call_of before_lines) ≡ map outcome_of before_lines
-unfolding serials group record_101 record_104 full_101 other_101 circle_102 second_104 twice_102 itself_103 other_roster second_102 record_102 lacking_103 full_103 short_103 row first_rows second_rows call_of outcome_of before_lines U.run U.next U.outcome U.offer_says U.asked_says U.showing_says U.checked_says U.writing_says U.found_says U.giving_says U.fetching_says U.listing_says U.shown_gives U.written_gives U.listed_gives I.answer_byte I.bytes_from I.laid I.listed_in C.listed_of C.size_of C.roster_of C.seconds_of C.alias_of C.accepted_of C.fresh C.opened_as C.opened same_kind C.of_group C.saying C.keeping_full C.keeping_row C.keeping C.answered entering C.entered C.judged C.offered_as C.offered C.answer_at C.asked_as C.asked unshown replaced shown_open shown_as shown_in C.shown off_roster C.checked_rows C.checked C.settled_of blocking_by told C.blocking_of C.fetching_of C.unmourned_of C.unmourned_count_of C.found_in C.with_second C.gave_as C.given is_found alias_in found_among giving C.record_of C.written_of size kind_in accepted_in L.then L.check L.byte L.serial L.known_kind L.kind_of L.kind_section L.roster_serials L.roster_section L.head_section L.mourned_serials L.mourned_section L.stored L.lone L.kind_byte L.serial_bytes L.serials_bytes L.chosen L.layout same_list unwritten put_at written_at place_of holds is_second counts_as stands_for finding first_repeat listed no_rows row_at rows_of with_row bytes_from row_bytes put_row row_in history_in rows_from laid bit has word packed any all subset same count lowest H.recorded H.mourned H.reach H.before H.is_full H.full_back H.answer_with H.open_answer H.none_open H.agrees H.accepts H.duty_met H.fits_test K.ruled_out_by K.blockers_by K.answer_by K.settled_by
+unfolding serials group record_101 record_104 full_101 other_101 circle_102 second_104 twice_102 itself_103 other_roster second_102 record_102 lacking_103 full_103 short_103 row first_rows second_rows call_of outcome_of before_lines U.run U.next U.outcome U.offer_says U.asked_says U.showing_says U.checked_says U.writing_says U.found_says U.giving_says U.fetching_says U.listing_says U.shown_gives U.written_gives U.listed_gives I.answer_byte I.bytes_from I.laid I.listed_in C.listed_of C.size_of C.roster_of C.seconds_of C.alias_of C.accepted_of C.fresh C.opened_as C.opened same_kind C.of_group C.saying C.keeping_full C.keeping_row C.keeping C.answered entering C.entered C.judged C.offered_as C.offered C.answer_at C.asked_as answer_of C.asked unshown replaced shown_open shown_as shown_in C.shown off_roster C.checked_rows C.checked C.settled_of blocking_by told C.blocking_of C.fetching_of C.unmourned_of C.unmourned_count_of C.found_in C.with_second C.gave_as C.given alias_in found_among giving C.record_of C.written_of size kind_in accepted_in L.then L.check L.byte L.serial L.known_kind L.kind_of L.kind_section L.roster_serials L.roster_section L.head_section L.mourned_serials L.mourned_section L.stored L.lone L.kind_byte L.serial_bytes L.serials_bytes L.chosen L.layout same_list unwritten put_at written_at place_of holds is_second counts_as stands_for finding first_repeat listed no_rows row_at rows_of with_row bytes_from row_bytes put_row row_in history_in rows_from laid bit has word packed any all subset same count lowest H.recorded H.mourned H.reach H.before H.is_full H.full_back H.answer_with H.open_answer H.none_open H.agrees H.accepts H.duty_met H.fits_test K.ruled_out_by K.blockers_by K.answer_by K.settled_by
 listing_before = refl
 
 -- each of the faulty records of `layouts`, offered
@@ -202,7 +205,7 @@ unfoldable pub refused_by : F.Faulty → Outcome
 refused_by x = says (refused (F.number_of x))
 
 pub listing_faults : U.run (C.opened serials).recovery (map offer_of_lem F.faulty) ≡ map refused_by F.faulty
-unfolding serials group record_101 record_104 full_101 other_101 circle_102 second_104 twice_102 itself_103 other_roster second_102 record_102 lacking_103 full_103 short_103 row first_rows second_rows F.bytes_of F.number_of F.head F.mourning F.faulty offer_of_lem refused_by U.run U.next U.outcome U.offer_says U.asked_says U.showing_says U.checked_says U.writing_says U.found_says U.giving_says U.fetching_says U.listing_says U.shown_gives U.written_gives U.listed_gives I.answer_byte I.bytes_from I.laid I.listed_in C.listed_of C.size_of C.roster_of C.seconds_of C.alias_of C.accepted_of C.fresh C.opened_as C.opened same_kind C.of_group C.saying C.keeping_full C.keeping_row C.keeping C.answered entering C.entered C.judged C.offered_as C.offered C.answer_at C.asked_as C.asked unshown replaced shown_open shown_as shown_in C.shown off_roster C.checked_rows C.checked C.settled_of blocking_by told C.blocking_of C.fetching_of C.unmourned_of C.unmourned_count_of C.found_in C.with_second C.gave_as C.given is_found alias_in found_among giving C.record_of C.written_of size kind_in accepted_in L.then L.check L.byte L.serial L.known_kind L.kind_of L.kind_section L.roster_serials L.roster_section L.head_section L.mourned_serials L.mourned_section L.stored L.lone L.kind_byte L.serial_bytes L.serials_bytes L.chosen L.layout same_list unwritten put_at written_at place_of holds is_second counts_as stands_for finding first_repeat listed no_rows row_at rows_of with_row bytes_from row_bytes put_row row_in history_in rows_from laid bit has word packed any all subset same count lowest H.recorded H.mourned H.reach H.before H.is_full H.full_back H.answer_with H.open_answer H.none_open H.agrees H.accepts H.duty_met H.fits_test K.ruled_out_by K.blockers_by K.answer_by K.settled_by
+unfolding serials group record_101 record_104 full_101 other_101 circle_102 second_104 twice_102 itself_103 other_roster second_102 record_102 lacking_103 full_103 short_103 row first_rows second_rows F.bytes_of F.number_of F.head F.mourning F.faulty offer_of_lem refused_by U.run U.next U.outcome U.offer_says U.asked_says U.showing_says U.checked_says U.writing_says U.found_says U.giving_says U.fetching_says U.listing_says U.shown_gives U.written_gives U.listed_gives I.answer_byte I.bytes_from I.laid I.listed_in C.listed_of C.size_of C.roster_of C.seconds_of C.alias_of C.accepted_of C.fresh C.opened_as C.opened same_kind C.of_group C.saying C.keeping_full C.keeping_row C.keeping C.answered entering C.entered C.judged C.offered_as C.offered C.answer_at C.asked_as answer_of C.asked unshown replaced shown_open shown_as shown_in C.shown off_roster C.checked_rows C.checked C.settled_of blocking_by told C.blocking_of C.fetching_of C.unmourned_of C.unmourned_count_of C.found_in C.with_second C.gave_as C.given alias_in found_among giving C.record_of C.written_of size kind_in accepted_in L.then L.check L.byte L.serial L.known_kind L.kind_of L.kind_section L.roster_serials L.roster_section L.head_section L.mourned_serials L.mourned_section L.stored L.lone L.kind_byte L.serial_bytes L.serials_bytes L.chosen L.layout same_list unwritten put_at written_at place_of holds is_second counts_as stands_for finding first_repeat listed no_rows row_at rows_of with_row bytes_from row_bytes put_row row_in history_in rows_from laid bit has word packed any all subset same count lowest H.recorded H.mourned H.reach H.before H.is_full H.full_back H.answer_with H.open_answer H.none_open H.agrees H.accepts H.duty_met H.fits_test K.ruled_out_by K.blockers_by K.answer_by K.settled_by
 listing_faults = refl
 
 -- its two records in either order, and one of them once more, leave one recovery

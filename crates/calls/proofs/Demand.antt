@@ -1,4 +1,8 @@
 -- Demand 3, proved: after a sound opening no call has an outcome that the records accepted by then do not dictate. Assumes nothing.
+use Rattle.answers.specs.Views.{answer_of}
+use Rattle.refusals.specs.declared.Refusal.{Refusal}
+use Rattle.refusals.specs.declared.Refusal.TheVariants as R
+use Rattle.std.specs.Prelude.{Option, Some, None, Result, Ok, Err}
 use mathlib.Core.Path.{◌≡◌, refl, sym, ap, ap₂, ◌∙◌, subst}
 use mathlib.Core.Bool.{Bool, true, false, cond, ◌&&◌}
 use mathlib.Core.Logic.{◌⊎◌, inl, inr, ◌↔◌}
@@ -32,7 +36,6 @@ use Rattle.layouts.specs.Records.{put_at, unwritten}
 use Rattle.layouts.proofs.Layouts.{IsStored, length_put, drop_put}
 use Rattle.layouts.proofs.Trips.{read_layout, faults}
 use Rattle.calls.specs.declared.Recovery.{Recovery}
-use Rattle.calls.specs.declared.Opening.TheVariants as G
 use Rattle.calls.specs.declared.Offered.{Offered}
 use Rattle.calls.specs.declared.Gave.{Gave}
 use Rattle.answers.specs.Checks.{off_roster}
@@ -42,7 +45,6 @@ use Rattle.answers.specs.Lists as listing
 use Rattle.answers.proofs.Lists as lists
 use Rattle.answers.proofs.Laying as laying
 use Rattle.answers.specs.Fetches.{told, blocking}
-use Rattle.answers.specs.declared.Fetching.TheVariants as E
 use Rattle.answers.proofs.Fetches as fetches
 use Rattle.answers.specs.Replies.{same_kind}
 use Rattle.calls.specs.Promises.{size_of, roster_of, seconds_of, alias_of, accepted_of, holding, fresh, opened, of_group, saying, keeping, entered, offered, asked_as, asked, shown, checked, settled_of, fetching_of, unmourned_of, unmourned_absent_of, unmourned_count_of, found_in, with_second, given, record_of, written_of, listed_of}
@@ -90,7 +92,7 @@ module _ {roster : List ℕ} {r : Recovery} (g : Good roster r) where
   -- ---- asking
 
   ask_step : (i : ℕ) → Dictates roster (ledger_of r) (ask i) (says (asked_says (asked r i))) (ledger_of r)
-  unfolding asked_as asked_says
+  unfolding asked_as answer_of asked_says
   ask_step i = go (dec_lt i n)
     where
       n : ℕ
@@ -337,7 +339,7 @@ module _ {roster : List ℕ} {r : Recovery} (g : Good roster r) where
       heard : MayHear n (accepted_of r) S
       heard = fetches.blocking_iff g.fits
 
-      go : (t : Bool) → any n S ≡ t → Dictates roster (ledger_of r) to_fetch (says (fetching_says (cond t (E.Needs (count n S) (record { 0 = lowest n S })) E.Settled))) (ledger_of r)
+      go : (t : Bool) → any n S ≡ t → Dictates roster (ledger_of r) to_fetch (says (fetching_says (cond t (Some (record { number = count n S; next = record { 0 = lowest n S } })) None))) (ledger_of r)
       go true e =
           let w = any_elim n S e in
           let l = lowest_below n S w.0 w.1 w.2 in
@@ -366,7 +368,7 @@ module _ {roster : List ℕ} {r : Recovery} (g : Good roster r) where
   unfolding found_says
   find_step x = go (view x)
     where
-      go : {f : Finding} → Standing roster (seconds_of r) x f → Dictates roster (ledger_of r) (find x) (says (found_says f)) (ledger_of r)
+      go : {f : Option Finding} → Standing roster (seconds_of r) x f → Dictates roster (ledger_of r) (find x) (says (found_says f)) (ledger_of r)
       go (as_first l e) = found_first l e
       go (as_second l z e) = found_second l z e
       go (unknown z) = found_none z
@@ -393,7 +395,7 @@ module _ {roster : List ℕ} {r : Recovery} (g : Good roster r) where
   Gives p x v = Dictates roster (ledger_of r) (give p x) (says (giving_says v.answer)) (ledger_of v.recovery) × Good roster v.recovery
 
   give_step : (p x : ℕ) → Gives p x (given r p x)
-  unfolding Gives giving_says accepted_of with_second is_found
+  unfolding Gives giving_says accepted_of with_second
   give_step p x = go (dec_lt p n) (ℕ_discrete x 0)
     where
       n : ℕ
@@ -409,7 +411,7 @@ module _ {roster : List ℕ} {r : Recovery} (g : Good roster r) where
           (subst (λ (s : List ℕ). Dictates roster (ledger_of r) (give p x) (says D.given) (record { accepted = accepted_of r; seconds = s })) (sym (second_given g.held p x l)) (gave l z u e), give_good p x l z u)
       new l z f u (no e) = rw (call.given_has r p x (at l) z f e) (gave_known l z (inr e), g)
 
-      judge : p < n → ¬ (x ≡ 0) → {f : Finding} → found_in r x ≡ f → Standing roster (seconds_of r) x f → Gives p x (given r p x)
+      judge : p < n → ¬ (x ≡ 0) → {f : Option Finding} → found_in r x ≡ f → Standing roster (seconds_of r) x f → Gives p x (given r p x)
       judge l z f (as_first {p = q} m e) = rw (call.given_known r p x (at l) z (ap is_found f)) (gave_known l z (inl (q, m, inl e)), g)
       judge l z f (as_second {p = q} m y e) = rw (call.given_known r p x (at l) z (ap is_found f)) (gave_known l z (inl (q, m, inr e)), g)
       judge l z f (unknown (inl y)) = absurd (z y)
@@ -549,7 +551,7 @@ good_left f cs = good_after (good_opened f) cs
 
 -- a sound opening succeeds, and whatever is called on the recovery afterwards, in whatever order, is answered as dictated
 pub demand_3 : (roster : List ℕ) → Free roster → (cs : List Call)
-    → ((opened roster).answer ≡ G.Opened) × Whole roster (begun roster) cs (run (opened roster).recovery cs)
+    → ((opened roster).answer ≡ Ok tt) × Whole roster (begun roster) cs (run (opened roster).recovery cs)
 demand_3 roster f cs =
     rw (opened_free roster f)
     (refl, subst (λ (A : Ledger). Whole roster A cs (run (fresh roster) cs)) beside (demand_from (fresh_good roster f) cs))

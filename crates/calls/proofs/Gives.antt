@@ -1,4 +1,8 @@
 -- What each call gives, one law for each way in which the code returns. Assumes nothing.
+use Rattle.refusals.specs.declared.Refusal.{Refusal}
+use Rattle.refusals.specs.declared.Refusal.TheVariants as R
+use Rattle.std.specs.Prelude.{Option, Some, None, Result, Ok, Err}
+use Rattle.answers.specs.declared.Answer as declared
 use mathlib.Core.Path.{◌≡◌, refl, sym, ap, ◌∙◌, fun_ext}
 use mathlib.Core.Bool.{Bool, true, false, not, cond, ◌&&◌, ◌||◌}
 use mathlib.Core.List.{List, [], ◌++◌}
@@ -15,24 +19,15 @@ use Rattle.sets.proofs.Counting.{count_within}
 use Rattle.sets.proofs.Laws.{packed_is, kept_has}
 use Rattle.histories.specs.declared.Kind.{Kind}
 use Rattle.histories.specs.declared.Kind.TheVariants.{Full, Short}
-use Rattle.histories.specs.Rule as R
+use Rattle.histories.specs.Rule as rule
 use Rattle.histories.specs.Kept as K
 use Rattle.serials.specs.Rosters.{listed}
-use Rattle.serials.specs.declared.Listed.{Listed}
-use Rattle.serials.specs.declared.Listed.TheVariants as L
 use Rattle.rows.specs.Rows.{no_rows, with_row}
 use Rattle.answers.specs.Views.{size, accepted_in, answer_of}
-use Rattle.answers.specs.declared.Answer as declared
-use Rattle.answers.specs.declared.Answer.TheVariants as B
 use Rattle.answers.proofs.Views.{size_at_most}
-use Rattle.answers.specs.declared.Giving.{Giving}
-use Rattle.answers.specs.declared.Giving.TheVariants as Y
 use Rattle.answers.specs.Groups.{found_among, is_found, giving}
 use Rattle.calls.proofs.Calls.{asked_is}
 use Rattle.calls.specs.declared.Recovery.{Recovery}
-use Rattle.calls.specs.declared.Opening.TheVariants as G
-use Rattle.calls.specs.declared.Asked.{Asked}
-use Rattle.calls.specs.declared.Asked.TheVariants as A
 use Rattle.calls.specs.Promises.{size_of, accepted_of, fresh, unopened, opened_as, opened, keeping_full, keeping_row, keeping, asked_as, asked, unmourned_of, unmourned_absent_of, unmourned_count_of, with_second, gave_as, given}
 
 -- ---- opening
@@ -55,16 +50,16 @@ fresh_is s serials e w p we he q = λ i. record {
   rows = q i;
 }
 
-pub unopened_is : (j : ℕ) (e : PlaceSet) (w : List ℕ) → Words e → has e ≡ nothing → w ≡ no_rows
-    → record { answer = G.Refused j; recovery = record { count = 0; serials = replicate 128 0; seconds = replicate 128 0; returned = e; full = e; mourned = e; earlier = e; rows = w } } ≡ unopened j
+pub unopened_is : (j : Refusal) (e : PlaceSet) (w : List ℕ) → Words e → has e ≡ nothing → w ≡ no_rows
+    → record { answer = Err j; recovery = record { count = 0; serials = replicate 128 0; seconds = replicate 128 0; returned = e; full = e; mourned = e; earlier = e; rows = w } } ≡ unopened j
 unfolding unopened
-unopened_is j e w we he q = ap (λ (r : Recovery). record { answer = G.Refused j; recovery = r }) (fresh_is [] (replicate 128 0) e w refl we he q)
+unopened_is j e w we he q = ap (λ (r : Recovery). record { answer = Err j; recovery = r }) (fresh_is [] (replicate 128 0) e w refl we he q)
 
-pub opened_sound : (s : List ℕ) (l : Listed) → l ≡ listed s → l ≡ L.Sound → record { answer = G.Opened; recovery = fresh s } ≡ opened s
+pub opened_sound : (s : List ℕ) (l : Result (Unit {0}) Refusal) → l ≡ listed s → l ≡ Ok tt → record { answer = Ok tt; recovery = fresh s } ≡ opened s
 unfolding opened opened_as
 opened_sound s l e f = rw (sym e ∙ f)
 
-pub opened_refused : (s : List ℕ) (l : Listed) (j : ℕ) → l ≡ listed s → l ≡ L.Refused j → unopened j ≡ opened s
+pub opened_refused : (s : List ℕ) (l : Result (Unit {0}) Refusal) (j : Refusal) → l ≡ listed s → l ≡ Err j → unopened j ≡ opened s
 unfolding opened opened_as
 opened_refused s l j e f = rw (sym e ∙ f)
 
@@ -110,39 +105,29 @@ module _ (r : Recovery) (p : ℕ) (m : PlaceSet) where
 
 -- ---- giving
 
-module _ (r : Recovery) (p x : ℕ) (v : Giving) (e : v ≡ giving r.count r.serials r.seconds p x) where
-  pub gave_given : (s : Recovery) → v ≡ Y.Given → s ≡ with_second r p x → record { answer = Y.Given; recovery = s } ≡ given r p x
+module _ (r : Recovery) (p x : ℕ) (v : Result (Unit {0}) Refusal) (e : v ≡ giving r.count r.serials r.seconds p x) where
+  pub gave_given : (s : Recovery) → v ≡ Ok tt → s ≡ with_second r p x → record { answer = Ok tt; recovery = s } ≡ given r p x
   unfolding given gave_as
   gave_given s a f = rw (f, ← e, a)
 
-  pub gave_refused : (j : ℕ) → v ≡ Y.Refused j → record { answer = Y.Refused j; recovery = r } ≡ given r p x
+  pub gave_refused : (j : Refusal) → v ≡ Err j → record { answer = Err j; recovery = r } ≡ given r p x
   unfolding given gave_as
   gave_refused j a = rw (← e, a)
   -- only a place of the roster is given one
 
-pub gave_on : (count : ℕ) (serials seconds : List ℕ) (p x : ℕ) (v : Giving) → v ≡ giving count serials seconds p x → v ≡ Y.Given → p < 128
+pub gave_on : (count : ℕ) (serials seconds : List ℕ) (p x : ℕ) (v : Result (Unit {0}) Refusal) → v ≡ giving count serials seconds p x → v ≡ Ok tt → p < 128
 unfolding giving
 gave_on count serials seconds p x v e a = go (ltb p (size count)) refl (sym e ∙ a)
   where
-    go : (t : Bool) → ltb p (size count) ≡ t → cond t (cond (eqb x 0) (Y.Refused 4) (cond (is_found (found_among count serials seconds x) || not (eqb (get_or seconds p 0) 0)) (Y.Refused 16) Y.Given)) (Y.Refused 12) ≡ Y.Given → p < 128
+    go : (t : Bool) → ltb p (size count) ≡ t → cond {A = Result (Unit {0}) Refusal} t (cond (eqb x 0) (Err R.ZeroSerial) (cond (is_found (found_among count serials seconds x) || not (eqb (get_or seconds p 0) 0)) (Err R.KnownSerial) (Ok tt))) (Err R.OffRoster) ≡ Ok tt → p < 128
     go true t h = let l : p < size count = ltb-true p (size count) t in omega (arith, size_at_most count)
     go false t h = let z : ◌≡◌ {A = ℕ} 0 1 = cc in absurd (omega arith)
 
 -- ---- asking
 
-abbrev pub asked_of : declared.Answer → Asked
-asked_of B.Last = A.Last
-asked_of B.NotLast = A.NotLast
-asked_of B.Open = A.Open
-
-asked_words : (a : R.Answer) → asked_of (answer_of a) ≡ asked_as a
-unfolding answer_of asked_as
-asked_words R.is_last = refl
-asked_words R.not_last = refl
-asked_words R.is_open = refl
-
-pub asked_on : (r : Recovery) (n : ℕ) → size_of r ≡ n → (i : ℕ) → i < n → (b : declared.Answer) → b ≡ answer_of (K.answer_by n (accepted_of r) (has r.mourned) (has r.earlier) i) → asked_of b ≡ asked r i
-asked_on r n is i h b e = ap asked_of e ∙ asked_words (K.answer_by n (accepted_of r) (has r.mourned) (has r.earlier) i) ∙ sym (asked_is r is i (K.answer_by n (accepted_of r) (has r.mourned) (has r.earlier) i) h refl)
+pub asked_on : (r : Recovery) (n : ℕ) → size_of r ≡ n → (i : ℕ) → i < n → (b : declared.Answer) → b ≡ answer_of (K.answer_by n (accepted_of r) (has r.mourned) (has r.earlier) i) → Ok b ≡ asked r i
+unfolding asked_as
+asked_on r n is i h b e = ap (λ (a : declared.Answer). Ok a) e ∙ sym (asked_is r is i (K.answer_by n (accepted_of r) (has r.mourned) (has r.earlier) i) h refl)
 
 -- ---- the sets and the number
 

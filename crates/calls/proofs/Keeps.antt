@@ -1,5 +1,8 @@
 -- Which records a recovery has accepted, and what it keeps beside them: a fresh one has none, and keeping a record lays it on the others.
 -- Assumes nothing.
+use Rattle.refusals.specs.declared.Refusal.{Refusal}
+use Rattle.refusals.specs.declared.Refusal.TheVariants as R
+use Rattle.std.specs.Prelude.{Option, Some, None, Result, Ok, Err}
 use mathlib.Core.Path.{◌≡◌, refl, sym, ap, ap₂, ◌∙◌, fun_ext}
 use mathlib.Core.Bool.{Bool, true, false, cond, ◌&&◌, ◌||◌, and-false}
 use mathlib.Core.List.{List, ◌++◌}
@@ -354,10 +357,10 @@ module _ {roster : List ℕ} {r : Recovery} (h : Held roster r) where
         ap₂ (λ (H : History) (S : Row). replaced H (lowest n S) (with i (before n (accepted_of r) i))) held_rows (ap₂ (λ (M F : Row). blockers_by n (accepted_of r) M F i) held_mourned held_earlier ∙ blockers_kept f i)
 
     pub kept_shown : (i : ℕ) (a b : List ℕ) → i < n → answer n (accepted_of r) i ≡ is_open → 16 * n ≤ length a → 16 * n ≤ length b
-        → shown r i a b ≡ record { answer = S.Shown; first = laid n (recorded (accepted_of r)) a; second = laid n (second n (accepted_of r) i) b }
+        → shown r i a b ≡ record { answer = Ok S.Shown; first = laid n (recorded (accepted_of r)) a; second = laid n (second n (accepted_of r) i) b }
     kept_shown i a b l e u v =
         shown_both r held_size i a b l (kept_answer i ∙ e) u v
-        ∙ ap₂ (λ (F G : History). record { answer = S.Shown; first = laid n F a; second = laid n G b }) held_rows (kept_second i)
+        ∙ ap₂ (λ (F G : History). record { answer = Ok S.Shown; first = laid n F a; second = laid n G b }) held_rows (kept_second i)
 
   pub kept_unmourned : unmourned_of r ≡ unmourned n (accepted_of r)
   unfolding unmourned

@@ -1,5 +1,10 @@
 -- Document 02, [1], proved: what is decided stays so whatever is called later, and records leave no trace of the order in which they came.
 -- Assumes nothing.
+use Rattle.refusals.specs.declared.Refusal.{Refusal}
+use Rattle.refusals.specs.declared.Refusal.TheVariants as R
+use Rattle.std.specs.Prelude.{Option, Some, None, Result, Ok, Err}
+use Rattle.answers.specs.declared.Answer as declared
+use Rattle.answers.specs.declared.Answer.TheVariants as A
 use mathlib.Core.Path.{◌≡◌, refl, sym, ap, ap₂, ◌∙◌, subst, fun_ext}
 use mathlib.Core.Bool.{Bool, true, false, cond, ◌&&◌}
 use mathlib.Core.Logic.{◌⊎◌, inl, inr, ◌↔◌}
@@ -25,8 +30,6 @@ use Rattle.answers.specs.Shows.{Shown, unshown}
 use Rattle.answers.specs.declared.Reply.{Reply}
 use Rattle.answers.specs.declared.Reply.TheVariants as O
 use Rattle.calls.specs.declared.Recovery.{Recovery}
-use Rattle.calls.specs.declared.Asked.{Asked}
-use Rattle.calls.specs.declared.Asked.TheVariants as A
 use Rattle.calls.specs.Promises.{seconds_of, accepted_of, holding, opened, offered, asked, shown, settled_of}
 use Rattle.calls.specs.Demand as D
 use Rattle.calls.specs.Demand.{Free, Call, offer, ask, show, whole, says, lent, OfGroup}
@@ -46,47 +49,47 @@ left_append r (c ∷ cs) ds = left_append (run.next r c) cs ds
 
 -- ---- document 01's words, back to the code's answers
 
-last_said : (a : Asked) → says (asked_says a) ≡ says D.is_last → a ≡ A.Last
+last_said : (a : Result declared.Answer Refusal) → says (asked_says a) ≡ says D.is_last → a ≡ Ok A.Last
 unfolding asked_says
-last_said A.Last e = refl
-last_said A.NotLast e = let z : ◌≡◌ {A = ℕ} 0 1 = cc in absurd (omega arith)
-last_said A.Open e = let z : ◌≡◌ {A = ℕ} 0 1 = cc in absurd (omega arith)
-last_said (A.Refused j) e = let z : ◌≡◌ {A = ℕ} 0 1 = cc in absurd (omega arith)
+last_said (Ok A.Last) e = refl
+last_said (Ok A.NotLast) e = let z : ◌≡◌ {A = ℕ} 0 1 = cc in absurd (omega arith)
+last_said (Ok A.Open) e = let z : ◌≡◌ {A = ℕ} 0 1 = cc in absurd (omega arith)
+last_said (Err j) e = let z : ◌≡◌ {A = ℕ} 0 1 = cc in absurd (omega arith)
 
-not_last_said : (a : Asked) → says (asked_says a) ≡ says D.not_last → a ≡ A.NotLast
+not_last_said : (a : Result declared.Answer Refusal) → says (asked_says a) ≡ says D.not_last → a ≡ Ok A.NotLast
 unfolding asked_says
-not_last_said A.Last e = let z : ◌≡◌ {A = ℕ} 0 1 = cc in absurd (omega arith)
-not_last_said A.NotLast e = refl
-not_last_said A.Open e = let z : ◌≡◌ {A = ℕ} 0 1 = cc in absurd (omega arith)
-not_last_said (A.Refused j) e = let z : ◌≡◌ {A = ℕ} 0 1 = cc in absurd (omega arith)
+not_last_said (Ok A.Last) e = let z : ◌≡◌ {A = ℕ} 0 1 = cc in absurd (omega arith)
+not_last_said (Ok A.NotLast) e = refl
+not_last_said (Ok A.Open) e = let z : ◌≡◌ {A = ℕ} 0 1 = cc in absurd (omega arith)
+not_last_said (Err j) e = let z : ◌≡◌ {A = ℕ} 0 1 = cc in absurd (omega arith)
 
-decided_said : (w : Shown) (a b : List ℕ) → shown_gives w ≡ lent D.decided a b → w ≡ unshown S.Decided a b
+decided_said : (w : Shown) (a b : List ℕ) → shown_gives w ≡ lent D.decided a b → w ≡ unshown (Ok S.Decided) a b
 unfolding shown_gives showing_says unshown
 decided_said w a b e = go w.answer refl e
   where
-    go : (s : Showing) → w.answer ≡ s → lent (showing_says s) w.first w.second ≡ lent D.decided a b → w ≡ record { answer = S.Decided; first = a; second = b }
-    go S.Decided h e =
+    go : (s : Result Showing Refusal) → w.answer ≡ s → lent (showing_says s) w.first w.second ≡ lent D.decided a b → w ≡ record { answer = Ok S.Decided; first = a; second = b }
+    go (Ok S.Decided) h e =
         let x : w.first ≡ a = cc in
         let y : w.second ≡ b = cc in
         λ i. record { answer = h i; first = x i; second = y i }
-    go S.Shown h e = let z : ◌≡◌ {A = ℕ} 0 1 = cc in absurd (omega arith)
-    go (S.Refused j) h e = let z : ◌≡◌ {A = ℕ} 0 1 = cc in absurd (omega arith)
+    go (Ok S.Shown) h e = let z : ◌≡◌ {A = ℕ} 0 1 = cc in absurd (omega arith)
+    go (Err j) h e = let z : ◌≡◌ {A = ℕ} 0 1 = cc in absurd (omega arith)
 
 settled_said : (t : Bool) → says (cond t D.settled D.unsettled) ≡ says D.settled → t ≡ true
 settled_said true e = refl
 settled_said false e = let z : ◌≡◌ {A = ℕ} 0 1 = cc in absurd (omega arith)
 
-accepted_said : (a : Reply) → (says (offer_says a) ≡ says D.taken) ⊎ (says (offer_says a) ≡ says D.repeated) → IsAccepted a
+accepted_said : (a : Result Reply Refusal) → (says (offer_says a) ≡ says D.taken) ⊎ (says (offer_says a) ≡ says D.repeated) → IsAccepted a
 unfolding offer_says
-accepted_said O.Taken e = inl refl
-accepted_said O.Repeated e = inr refl
-accepted_said (O.Refused j) (inl e) = let z : ◌≡◌ {A = ℕ} 0 1 = cc in absurd (omega arith)
-accepted_said (O.Refused j) (inr e) = let z : ◌≡◌ {A = ℕ} 0 1 = cc in absurd (omega arith)
+accepted_said (Ok O.Taken) e = inl refl
+accepted_said (Ok O.Repeated) e = inr refl
+accepted_said (Err j) (inl e) = let z : ◌≡◌ {A = ℕ} 0 1 = cc in absurd (omega arith)
+accepted_said (Err j) (inr e) = let z : ◌≡◌ {A = ℕ} 0 1 = cc in absurd (omega arith)
 
-says_accepted : (a : Reply) → IsAccepted a → (says (offer_says a) ≡ says D.taken) ⊎ (says (offer_says a) ≡ says D.repeated)
+says_accepted : (a : Result Reply Refusal) → IsAccepted a → (says (offer_says a) ≡ says D.taken) ⊎ (says (offer_says a) ≡ says D.repeated)
 unfolding offer_says
-says_accepted a (inl e) = inl (ap (λ (a : Reply). says (offer_says a)) e)
-says_accepted a (inr e) = inr (ap (λ (a : Reply). says (offer_says a)) e)
+says_accepted a (inl e) = inl (ap (λ (a : Result Reply Refusal). says (offer_says a)) e)
+says_accepted a (inr e) = inr (ap (λ (a : Result Reply Refusal). says (offer_says a)) e)
 
 -- ---- what is decided stays decided
 
@@ -101,13 +104,13 @@ module _ {roster : List ℕ} {r : Recovery} (g : Good roster r) (ds : List Call)
   unfolding outcome asked_says shown_gives showing_says
   stays_left i = record {
     last = λ e.
-        let w = (last_iff g.fits (step g (ask i))).0 (ap (λ (a : Asked). says (asked_says a)) e) in
+        let w = (last_iff g.fits (step g (ask i))).0 (ap (λ (a : Result declared.Answer Refusal). says (asked_says a)) e) in
         last_said (asked (left r ds) i) ((last_iff later.fits (step later (ask i))).1 (w.0, last_more more w.1));
     not_last = λ e.
-        let w = (not_last_iff g.fits (step g (ask i))).0 (ap (λ (a : Asked). says (asked_says a)) e) in
+        let w = (not_last_iff g.fits (step g (ask i))).0 (ap (λ (a : Result declared.Answer Refusal). says (asked_says a)) e) in
         not_last_said (asked (left r ds) i) ((not_last_iff later.fits (step later (ask i))).1 (w.0, not_last_more more w.1));
     decided = λ a b e c d.
-        let w = decided_elim (step g (show i a b)) (ap (λ (s : Showing). lent (showing_says s) (shown r i a b).first (shown r i a b).second) e) in
+        let w = decided_elim (step g (show i a b)) (ap (λ (s : Result Showing Refusal). lent (showing_says s) (shown r i a b).first (shown r i a b).second) e) in
         decided_said (shown (left r ds) i c d) c d (decided_intro (step later (show i c d)) w.0 (decided_more more w.1));
   }
 

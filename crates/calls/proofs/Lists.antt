@@ -1,4 +1,8 @@
 -- Listing and asking: each byte of the list is the byte of what asking for its place says. Assumes nothing.
+use Rattle.answers.specs.Views.{answer_of}
+use Rattle.refusals.specs.declared.Refusal.{Refusal}
+use Rattle.refusals.specs.declared.Refusal.TheVariants as R
+use Rattle.std.specs.Prelude.{Option, Some, None, Result, Ok, Err}
 use mathlib.Core.Path.{◌≡◌, refl, ap, ◌∙◌}
 use mathlib.Core.List.{List}
 use Prim.Native.Nat.{ℕ, ◌<◌, ◌≤◌}
@@ -18,7 +22,7 @@ module _ (r : Recovery) (out : List ℕ) (room : size_of r ≤ length out) where
 
   -- of any recovery whatever, and with any buffer that has room
   pub each_as_asked : (i : ℕ) → i < size_of r → AskedByte (asked r i) (get_or (listed_of r out).buffer i 0)
-  unfolding asked_as answer_byte answered
+  unfolding asked_as answer_of answer_byte answered
   each_as_asked i l = rw (byte, asked_is r refl i (answered i) l refl) (go (answered i))
     where
       byte : get_or (listed_of r out).buffer i 0 ≡ answer_byte (answered i)

@@ -1,4 +1,7 @@
 -- Offering, by its parts: what a reply leaves, and that judging the parts of a recovery is judging the whole. Assumes nothing.
+use Rattle.refusals.specs.declared.Refusal.{Refusal}
+use Rattle.refusals.specs.declared.Refusal.TheVariants as R
+use Rattle.std.specs.Prelude.{Option, Some, None, Result, Ok, Err}
 use mathlib.Core.Path.{◌≡◌, refl, sym, ap, ap₂, ◌∙◌, subst}
 use mathlib.Core.Bool.{Bool, true, false, cond, ◌&&◌}
 use mathlib.Core.List.{List}
@@ -12,7 +15,6 @@ use Rattle.histories.specs.declared.Kind.{Kind}
 use Rattle.histories.specs.Histories.{Row}
 use Rattle.layouts.specs.Layout.{Parsed, got, refused, Stored, stored, lone}
 use Rattle.layouts.specs.declared.Record.{Record}
-use Rattle.layouts.specs.declared.Reading.TheVariants.{Read, Refused}
 use Rattle.layouts.specs.Records.{reading_of, reading_lone, same_list, roster_there, roster_is}
 use Rattle.layouts.proofs.Layouts.{stored_back}
 use Rattle.layouts.proofs.Trips.{lone_back, serials_read, roster_within}
@@ -25,15 +27,15 @@ use Rattle.calls.specs.declared.Recovery.{Recovery}
 use Rattle.calls.specs.Promises.{size_of, roster_of, seconds_of, alias_of, of_group, saying, keeping, answered, entered, judged, offered_as, offered}
 use Rattle.calls.proofs.Facts.{lone_on}
 
-pub answered_taken : (r : Recovery) (p : ℕ) (k : Kind) (M : Row) (a : Reply) (s : Recovery) → a ≡ O.Taken → s ≡ keeping r p k M → record { answer = O.Taken; recovery = s } ≡ answered r p k M a
+pub answered_taken : (r : Recovery) (p : ℕ) (k : Kind) (M : Row) (a : Result Reply Refusal) (s : Recovery) → a ≡ Ok O.Taken → s ≡ keeping r p k M → record { answer = Ok O.Taken; recovery = s } ≡ answered r p k M a
 unfolding answered
 answered_taken r p k M a s e f = rw (e, f)
 
-pub answered_repeated : (r : Recovery) (p : ℕ) (k : Kind) (M : Row) (a : Reply) → a ≡ O.Repeated → saying r O.Repeated ≡ answered r p k M a
+pub answered_repeated : (r : Recovery) (p : ℕ) (k : Kind) (M : Row) (a : Result Reply Refusal) → a ≡ Ok O.Repeated → saying r (Ok O.Repeated) ≡ answered r p k M a
 unfolding answered
 answered_repeated r p k M a e = rw e
 
-pub answered_refused : (r : Recovery) (p : ℕ) (k : Kind) (M : Row) (a : Reply) (j : ℕ) → a ≡ O.Refused j → saying r (O.Refused j) ≡ answered r p k M a
+pub answered_refused : (r : Recovery) (p : ℕ) (k : Kind) (M : Row) (a : Result Reply Refusal) (j : Refusal) → a ≡ Err j → saying r (Err j) ≡ answered r p k M a
 unfolding answered
 answered_refused r p k M a j e = rw e
 
@@ -60,31 +62,31 @@ module _ (alias : ℕ → ℕ) (b : List ℕ) (y : Stored) (rest : List ℕ) (e 
       ≡ judged r y
   unfolding judgement judged of_group roster_of size_of entered answered
   judged_is r all =
-      ap₂ (λ (t : Bool) (M : Row). answered r y.own y.kind M (cond t (entering r.count (has r.returned) (has r.full) r.rows y.own y.kind M) (O.Refused 9)))
+      ap₂ (λ (t : Bool) (M : Row). answered r y.own y.kind M (cond t (entering r.count (has r.returned) (has r.full) r.rows y.own y.kind M) (Err R.OtherGroup)))
       (roster_there_lem (take (size r.count) r.serials)) mourned_is
       ∙ go (same_list y.roster (take (size r.count) r.serials))
     where
-      go : (t : Bool) → answered r y.own y.kind y.mourned (cond t (entering r.count (has r.returned) (has r.full) r.rows y.own y.kind y.mourned) (O.Refused 9))
-          ≡ cond t (entered r y.own y.kind y.mourned) (saying r (O.Refused 9))
+      go : (t : Bool) → answered r y.own y.kind y.mourned (cond t (entering r.count (has r.returned) (has r.full) r.rows y.own y.kind y.mourned) (Err R.OtherGroup))
+          ≡ cond t (entered r y.own y.kind y.mourned) (saying r (Err R.OtherGroup))
       go true = refl
-      go false = sym (answered_refused r y.own y.kind y.mourned (O.Refused 9) 9 refl)
+      go false = sym (answered_refused r y.own y.kind y.mourned (Err R.OtherGroup) R.OtherGroup refl)
 
-pub offered_read : (r : Recovery) (b : List ℕ) (x : Record) → reading_lone (alias_in r.count r.serials r.seconds) b ≡ Read x
+pub offered_read : (r : Recovery) (b : List ℕ) (x : Record) → reading_lone (alias_in r.count r.serials r.seconds) b ≡ Ok x
     → answered r x.own.0 x.kind (has x.mourned) (judgement r.count r.serials (has r.returned) (has r.full) r.rows b x) ≡ offered r b
 unfolding reading_lone reading_of offered offered_as alias_of roster_of seconds_of size_of alias_in
 offered_read r b x e = go (lone (alias_of r) b) refl e
   where
-    go : (p : Parsed Stored) → lone (alias_of r) b ≡ p → reading_of (length b) 0 p ≡ Read x
+    go : (p : Parsed Stored) → lone (alias_of r) b ≡ p → reading_of (length b) 0 p ≡ Ok x
         → answered r x.own.0 x.kind (has x.mourned) (judgement r.count r.serials (has r.returned) (has r.full) r.rows b x) ≡ offered_as r p
     go (got y rest) f g =
         let h : record { kind = y.kind; own = record { 0 = y.own }; roster = 6; count = length y.roster; mourned = packed y.mourned; next = length b - length rest } ≡ x = cc in
         subst (λ (x : Record). answered r x.own.0 x.kind (has x.mourned) (judgement r.count r.serials (has r.returned) (has r.full) r.rows b x) ≡ judged r y) h (judged_is (alias_of r) b y rest f r (length b - length rest))
     go (refused j) f g = let z : ◌≡◌ {A = ℕ} 0 1 = cc in absurd (omega arith)
 
-pub offered_unread : (r : Recovery) (b : List ℕ) (j : ℕ) → reading_lone (alias_in r.count r.serials r.seconds) b ≡ Refused j → saying r (O.Refused j) ≡ offered r b
+pub offered_unread : (r : Recovery) (b : List ℕ) (j : Refusal) → reading_lone (alias_in r.count r.serials r.seconds) b ≡ Err j → saying r (Err j) ≡ offered r b
 unfolding reading_lone reading_of offered offered_as alias_of roster_of seconds_of size_of alias_in
 offered_unread r b j e = go (lone (alias_of r) b) e
   where
-    go : (p : Parsed Stored) → reading_of (length b) 0 p ≡ Refused j → saying r (O.Refused j) ≡ offered_as r p
+    go : (p : Parsed Stored) → reading_of (length b) 0 p ≡ Err j → saying r (Err j) ≡ offered_as r p
     go (got y rest) g = let z : ◌≡◌ {A = ℕ} 0 1 = cc in absurd (omega arith)
-    go (refused i) g = let h : j ≡ i = cc in ap (λ (j : ℕ). saying r (O.Refused j)) h
+    go (refused i) g = let h : j ≡ i = cc in ap (λ (j : Refusal). saying r (Err j)) h

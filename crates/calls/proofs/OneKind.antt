@@ -1,5 +1,8 @@
 -- Groups of one kind are answered as before document 02, [3]: after any opening and calls, where the accepted records are all of one kind.
 -- Assumes nothing.
+use Rattle.refusals.specs.declared.Refusal.{Refusal}
+use Rattle.refusals.specs.declared.Refusal.TheVariants as R
+use Rattle.std.specs.Prelude.{Option, Some, None, Result, Ok, Err}
 use mathlib.Core.Path.{◌≡◌, refl, sym, ap, ◌∙◌}
 use mathlib.Core.Bool.{Bool, true, false, cond}
 use mathlib.Core.List.{List}
@@ -40,12 +43,12 @@ module _ {roster : List ℕ} (f : Free roster) (cs : List Call) (k : Kind) (one 
         ap (λ (j : Kind). accepts (length roster) (accepted_of (reached roster cs)) x.own j x.mourned) same
         ∙ same_accepts k one good.fits x.own x.mourned absent (rw s.same_roster at on.0) (λ q e. rw s.same_roster at (on.1 q e))
 
-    answer_of_lem : (t : Bool) → (cond t (record { answer = O.Taken; recovery = keeping (reached roster cs) x.own x.kind x.mourned }) (saying (reached roster cs) (O.Refused 11))).answer ≡ cond t O.Taken (O.Refused 11)
+    answer_of_lem : (t : Bool) → (cond t (record { answer = Ok O.Taken; recovery = keeping (reached roster cs) x.own x.kind x.mourned }) (saying (reached roster cs) (Err R.NoHistory))).answer ≡ cond t (Ok O.Taken) (Err R.NoHistory)
     unfolding saying
     answer_of_lem true = refl
     answer_of_lem false = refl
 
-    pub offered_as_before : (offered (reached roster cs) bytes).answer ≡ cond (earlier.accepts k (length roster) (accepted_of (reached roster cs)) x.own x.mourned) O.Taken (O.Refused 11)
+    pub offered_as_before : (offered (reached roster cs) bytes).answer ≡ cond (earlier.accepts k (length roster) (accepted_of (reached roster cs)) x.own x.mourned) (Ok O.Taken) (Err R.NoHistory)
     offered_as_before =
         ap (λ (o : Offered). o.answer)
         (call.offered_entered (reached roster cs) bytes x s.rest (ap (λ (a : ℕ → ℕ). lone a bytes) (is_alias good) ∙ s.reads) (s.same_roster ∙ sym (is_roster good))

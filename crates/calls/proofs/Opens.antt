@@ -1,4 +1,7 @@
 -- Which word or refusal an opening gives, whatever it is opened with. Assumes nothing.
+use Rattle.refusals.specs.declared.Refusal.{Refusal}
+use Rattle.refusals.specs.declared.Refusal.TheVariants as R
+use Rattle.std.specs.Prelude.{Option, Some, None, Result, Ok, Err}
 use mathlib.Core.Path.{◌≡◌, refl}
 use mathlib.Core.Bool.{Bool, true, false, cond, ◌&&◌}
 use mathlib.Core.Logic.{inl, inr}
@@ -9,9 +12,7 @@ use lib.ListN.{length}
 use lib.Dec.{leb, ltb}
 use borrow.Author.Tests.{leb-true, leb-false, ltb-true, ltb-false}
 use Rattle.serials.specs.Rosters.{holds, first_repeat, listed}
-use Rattle.serials.specs.declared.Listed.TheVariants as L
 use Rattle.serials.proofs.Rosters.{Sized, holds_where, listed_twice, listed_roster, listed_sound, listed_5}
-use Rattle.calls.specs.declared.Opening.TheVariants as G
 use Rattle.calls.specs.Promises.{fresh, unopened, opened_as, opened}
 use Rattle.calls.specs.Demand.{Free, Opens, wrong_count, zero_serial, twice, succeeds}
 use Rattle.calls.specs.Run.{opening_says}
@@ -21,7 +22,7 @@ use Rattle.calls.specs.Run.{opening_says}
 module _ (s : List ℕ) where
   -- of a list of 1 to 128 serials
   sized : Sized s → (z : Bool) → holds 0 s ≡ z → (t : Bool) → ltb (first_repeat [] s) (length s) ≡ t
-      → Opens s (opening_says (opened_as s (cond z (L.Refused 4) (cond t (L.Refused 5) L.Sound))).answer)
+      → Opens s (opening_says (opened_as s (cond z (Err R.ZeroSerial) (cond t (Err R.Twice) (Ok tt)))).answer)
   unfolding opened_as unopened opening_says
   sized l true hz t ht = let w = holds_where 0 s hz in zero_serial l.0 l.1 w.1 w.2
   sized l false hz true ht =
@@ -30,7 +31,7 @@ module _ (s : List ℕ) where
   sized l false hz false ht = succeeds ((listed_sound s).0 (listed_roster s l hz (ltb-false (first_repeat [] s) (length s) ht)))
 
   any_list : (b : Bool) → leb 1 (length s) ≡ b → (c : Bool) → leb (length s) 128 ≡ c
-      → Opens s (opening_says (opened_as s (cond (b && c) (cond (holds 0 s) (L.Refused 4) (cond (ltb (first_repeat [] s) (length s)) (L.Refused 5) L.Sound)) (L.Refused 3))).answer)
+      → Opens s (opening_says (opened_as s (cond (b && c) (cond (holds 0 s) (Err R.ZeroSerial) (cond (ltb (first_repeat [] s) (length s)) (Err R.Twice) (Ok tt))) (Err R.BadCount))).answer)
   unfolding opened_as unopened opening_says
   any_list false hb c hc = let l : length s < 1 = leb-false 1 (length s) hb in wrong_count (inl (omega arith))
   any_list true hb false hc = wrong_count (inr (leb-false (length s) 128 hc))
@@ -43,6 +44,6 @@ opens s = any_list s (leb 1 (length s)) refl (leb (length s) 128) refl
 
 -- ---- one free of faults
 
-pub opened_free : (s : List ℕ) → Free s → opened s ≡ record { answer = G.Opened; recovery = fresh s }
+pub opened_free : (s : List ℕ) → Free s → opened s ≡ record { answer = Ok tt; recovery = fresh s }
 unfolding opened opened_as
 opened_free s f = rw ((listed_sound s).1 f.sound)

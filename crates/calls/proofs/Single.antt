@@ -1,4 +1,8 @@
 -- One outcome is dictated to a call, but for the rows of two shown histories, and one set of records after it. Assumes nothing.
+use Rattle.refusals.specs.Numbers as N
+use Rattle.refusals.specs.declared.Refusal.{Refusal}
+use Rattle.refusals.specs.declared.Refusal.TheVariants as R
+use Rattle.std.specs.Prelude.{Option, Some, None, Result, Ok, Err}
 use mathlib.Core.Path.{◌≡◌, refl, sym, ap, ap₂, ◌∙◌, subst, fun_ext}
 use mathlib.Core.Bool.{Bool, true, false, cond}
 use mathlib.Core.Logic.{◌⊎◌, inl, inr, ◌↔◌}
@@ -83,10 +87,10 @@ room (inr s) x y = absurd (omega arith)
 
 -- ---- the same bytes read twice
 
-same_fault : {p : Parsed Stored} {i j : ℕ} → p ≡ L.refused i → p ≡ L.refused j → i ≡ j
+same_fault : {p : Parsed Stored} {i j : Refusal} → p ≡ L.refused i → p ≡ L.refused j → i ≡ j
 same_fault e h = cc
 
-pub read_clash : {X : Type 0} {p : Parsed Stored} {rest : List ℕ} {j : ℕ} {x : Stored} → p ≡ L.refused j → p ≡ got x rest → X
+pub read_clash : {X : Type 0} {p : Parsed Stored} {rest : List ℕ} {j : Refusal} {x : Stored} → p ≡ L.refused j → p ≡ got x rest → X
 read_clash e h = let z : ◌≡◌ {A = ℕ} 0 1 = cc in absurd (omega arith)
 
 pub same_record : {p : Parsed Stored} {u v : List ℕ} {x y : Stored} → p ≡ got x u → p ≡ got y v → x ≡ y
@@ -191,7 +195,7 @@ pub single : {roster : List ℕ} {A : Ledger} {H : History} → Fits (length ros
     → {c : Call} {o₁ o₂ : Outcome} {B₁ B₂ : Ledger} → Dictates roster A c o₁ B₁ → Dictates roster A c o₂ B₂ → InBytes o₁ → InBytes o₂
     → (plain (length roster) o₁ ≡ plain (length roster) o₂) × (B₁ ≡ B₂)
 unfolding plain showing
-single f s (faulty e₁ l₁ m₁) (faulty e₂ l₂ m₂) c₁ c₂ = (ap (λ (j : ℕ). says (refused j)) (same_fault e₁ e₂), refl)
+single f s (faulty e₁ l₁ m₁) (faulty e₂ l₂ m₂) c₁ c₂ = (ap (λ (j : Refusal). says (refused (N.number j))) (same_fault e₁ e₂), refl)
 single f s (faulty e₁ l₁ m₁) (foreign e₂ z₂) c₁ c₂ = read_clash e₁ e₂
 single f s (faulty e₁ l₁ m₁) (repeats s₂ b₂ q₂) c₁ c₂ = read_clash e₁ s₂.reads
 single f s (faulty e₁ l₁ m₁) (differs s₂ b₂ q₂) c₁ c₂ = read_clash e₁ s₂.reads

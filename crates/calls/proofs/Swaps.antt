@@ -1,4 +1,7 @@
 -- Second serials: where a serial stands in a group and what finding it says, and that they stay apart. Document 02, [2]. Assumes nothing.
+use Rattle.refusals.specs.declared.Refusal.{Refusal}
+use Rattle.refusals.specs.declared.Refusal.TheVariants as R
+use Rattle.std.specs.Prelude.{Option, Some, None, Result, Ok, Err}
 use mathlib.Core.Path.{◌≡◌, refl, sym, ap, ◌∙◌}
 use mathlib.Core.Bool.{Bool, true, false}
 use mathlib.Core.Logic.{◌⊎◌, inl, inr}
@@ -11,7 +14,7 @@ use lib.Seq.{get_or-set_same, get_or-set_other}
 use Rattle.serials.specs.Rosters.{place_of, holds}
 use Rattle.serials.specs.Seconds.{counts_as, finding}
 use Rattle.serials.specs.declared.Finding.{Finding}
-use Rattle.serials.specs.declared.Finding.TheVariants.{First, Second, Nothing}
+use Rattle.serials.specs.declared.Finding.TheVariants.{First, Second}
 use Rattle.serials.proofs.Rosters.{place_stands, holds_below, holds_nowhere, where_holds}
 use Rattle.serials.proofs.Seconds.{counts_zero, counts_other, counts_second, found_first, found_second, found_nothing}
 use Rattle.layouts.proofs.Serials.{place_own}
@@ -20,10 +23,10 @@ use Rattle.calls.specs.Demand.{KnownSerial, AreSeconds}
 -- ---- finding
 
 -- where x stands in a group with this roster and these second serials, and what finding it says then
-pub data Standing (roster seconds : List ℕ) (x : ℕ) : Finding → Type 0 where
-  as_first : {p : ℕ} → p < length roster → get_or roster p 0 ≡ x → Standing roster seconds x (First (record { 0 = p }))
-  as_second : {p : ℕ} → p < length roster → ¬ (x ≡ 0) → get_or seconds p 0 ≡ x → Standing roster seconds x (Second (record { 0 = p }))
-  unknown : (x ≡ 0) ⊎ (¬ (KnownSerial roster seconds x)) → Standing roster seconds x Nothing
+pub data Standing (roster seconds : List ℕ) (x : ℕ) : Option Finding → Type 0 where
+  as_first : {p : ℕ} → p < length roster → get_or roster p 0 ≡ x → Standing roster seconds x (Some (First (record { 0 = p })))
+  as_second : {p : ℕ} → p < length roster → ¬ (x ≡ 0) → get_or seconds p 0 ≡ x → Standing roster seconds x (Some (Second (record { 0 = p })))
+  unknown : (x ≡ 0) ⊎ (¬ (KnownSerial roster seconds x)) → Standing roster seconds x None
 
 module _ (roster seconds : List ℕ) (long : length seconds ≡ length roster) (no_repeat : (p q : ℕ) → p < q → q < length roster → ¬ (get_or roster p 0 ≡ get_or roster q 0)) (x : ℕ) where
   -- not a first serial

@@ -1,6 +1,9 @@
 -- Records and histories there and back, on any recovery that an opening and calls can reach. Assumes nothing.
+use Rattle.refusals.specs.declared.Refusal.{Refusal}
+use Rattle.refusals.specs.declared.Refusal.TheVariants as R
+use Rattle.std.specs.Prelude.{Option, Some, None, Result, Ok, Err}
 use mathlib.Core.Path.{◌≡◌, refl, sym, ap, ◌∙◌, subst}
-use mathlib.Core.Bool.{Bool, true, cond}
+use mathlib.Core.Bool.{Bool, true, false, cond}
 use mathlib.Core.List.{List}
 use Prim.Native.Nat.{ℕ, ◌+◌, ◌*◌, ◌≤◌}
 use native.Mathlib.Omega.{arith}
@@ -9,7 +12,6 @@ use Rattle.sets.proofs.Booleans.{or_right, eqb_self}
 use Rattle.histories.specs.Histories.{History, Fits, Disagree}
 use Rattle.serials.specs.Seconds.{counts_as, itself}
 use Rattle.rows.specs.Rows.{history_in}
-use Rattle.layouts.specs.declared.Writing.TheVariants as W
 use Rattle.layouts.specs.Layout.{Parsed, got, Stored, stored, lone, layout}
 use Rattle.layouts.specs.Records.{reading_of, reading, put_at, Written}
 use Rattle.layouts.proofs.Layouts.{AllBytes, IsStored, drop_put}
@@ -19,8 +21,6 @@ use Rattle.answers.specs.declared.Reply.{Reply}
 use Rattle.answers.specs.declared.Reply.TheVariants as O
 use Rattle.answers.specs.declared.Showing.{Showing}
 use Rattle.answers.specs.declared.Showing.TheVariants as S
-use Rattle.calls.specs.declared.Checked.{Checked}
-use Rattle.calls.specs.declared.Checked.TheVariants as C
 use Rattle.calls.specs.Promises.{seconds_of, alias_of, accepted_of, offered, shown, checked, record_of, written_of}
 use Rattle.calls.specs.Demand as D
 use Rattle.calls.specs.Demand.{Free, Ledger, laying, Call, offer, show, check, says, lent, OfGroup, Holds, record_in, Dictates, takes, showed, checked_fits}
@@ -38,11 +38,11 @@ taken_lays : {roster bytes : List ℕ} {A B : Ledger} → Dictates roster A (off
     → (x : Stored) × OfGroup roster A.seconds bytes x × (B ≡ laying A x.own x.kind x.mourned)
 taken_lays (takes {x = x} s b f) = (x, s, refl)
 
-module _ {roster : List ℕ} {r : Recovery} (g : Good roster r) (bytes : List ℕ) (t : (offered r bytes).answer ≡ O.Taken) where
+module _ {roster : List ℕ} {r : Recovery} (g : Good roster r) (bytes : List ℕ) (t : (offered r bytes).answer ≡ Ok O.Taken) where
   taken_step : Dictates roster (ledger_of r) (offer bytes) (says D.taken) (ledger_of (offered r bytes).recovery)
   unfolding outcome next offer_says
   taken_step =
-      subst (λ (a : Reply). Dictates roster (ledger_of r) (offer bytes) (says (offer_says a)) (ledger_of (offered r bytes).recovery)) t (step g (offer bytes))
+      subst (λ (a : Result Reply Refusal). Dictates roster (ledger_of r) (offer bytes) (says (offer_says a)) (ledger_of (offered r bytes).recovery)) t (step g (offer bytes))
 
   taken_good : Good roster (offered r bytes).recovery
   unfolding next
@@ -103,10 +103,10 @@ module _ {roster : List ℕ} {r : Recovery} (g : Good roster r) (bytes : List �
 
 -- where a returned record is written
 lays_down : (r : Recovery) (p : ℕ) → (accepted_of r).returned p ≡ true → (out : List ℕ) (at : ℕ) → at + length (layout (record_of r p)) ≤ length out
-    → written_of r p out at ≡ record { answer = W.Next (at + length (layout (record_of r p))); buffer = put_at at (layout (record_of r p)) out }
+    → written_of r p out at ≡ record { answer = Ok (at + length (layout (record_of r p))); buffer = put_at at (layout (record_of r p)) out }
 lays_down r p b out at l = written_at_lem r refl p out at (returned_on r p b) b l
 
-module _ {roster : List ℕ} (f : Free roster) (cs : List Call) (bytes : List ℕ) (t : (offered (reached roster cs) bytes).answer ≡ O.Taken) where
+module _ {roster : List ℕ} (f : Free roster) (cs : List Call) (bytes : List ℕ) (t : (offered (reached roster cs) bytes).answer ≡ Ok O.Taken) where
   -- it was read, by the second serials given up to then
   pub taken_reads : (x : Stored) × (rest : List ℕ) × (lone (alias_of (reached roster cs)) bytes ≡ got x rest)
   taken_reads = let w = taken_lays (taken_step (good_left f cs) bytes t) in (w.0, w.1.rest, as_read w.1.reads)
@@ -124,10 +124,10 @@ module _ {roster : List ℕ} (f : Free roster) (cs : List Call) (bytes : List �
 
     -- and is what is written, in first serials
     pub taken_put : (out : List ℕ) (at : ℕ) → at + length (layout x) ≤ length out
-        → written_of (left (offered (reached roster cs) bytes).recovery ds) x.own out at ≡ record { answer = W.Next (at + length (layout x)); buffer = put_at at (layout x) out }
+        → written_of (left (offered (reached roster cs) bytes).recovery ds) x.own out at ≡ record { answer = Ok (at + length (layout x)); buffer = put_at at (layout x) out }
     taken_put out at l =
         lays_down (left (offered (reached roster cs) bytes).recovery ds) x.own stays.0 out at (rw taken_kept l)
-        ∙ ap (λ (y : Stored). record { answer = W.Next (at + length (layout y)); buffer = put_at at (layout y) out }) taken_kept
+        ∙ ap (λ (y : Stored). record { answer = Ok (at + length (layout y)); buffer = put_at at (layout y) out }) taken_kept
 
     -- so the bytes that were offered are written, if no second serial is among them
     pub taken_written : AllBytes bytes → lone itself bytes ≡ got x rest → layout (record_of (left (offered (reached roster cs) bytes).recovery ds) x.own) ≡ bytes
@@ -162,36 +162,36 @@ shown_holds : {roster : List ℕ} {A B : Ledger} {i : ℕ} {a b a' b' : List ℕ
     → (F : History) × (G : History) × (16 * length roster ≤ length a) × (16 * length roster ≤ length b) × Disagree (length roster) A.accepted i F G × Holds (length roster) a a' F × Holds (length roster) b b' G
 shown_holds (showed {F = F} {G = G} x u v d y z) = (F, G, u, v, d, y, z)
 
-fits_said : (c : Checked) → checked_says c ≡ D.fits → c ≡ C.Fits
+fits_said : (c : Result Bool Refusal) → checked_says c ≡ D.fits → c ≡ Ok true
 unfolding checked_says
-fits_said C.Fits e = refl
-fits_said C.FitsNot e = let z : ◌≡◌ {A = ℕ} 0 1 = cc in absurd (omega arith)
-fits_said (C.Refused j) e = let z : ◌≡◌ {A = ℕ} 0 1 = cc in absurd (omega arith)
+fits_said (Ok true) e = refl
+fits_said (Ok false) e = let z : ◌≡◌ {A = ℕ} 0 1 = cc in absurd (omega arith)
+fits_said (Err j) e = let z : ◌≡◌ {A = ℕ} 0 1 = cc in absurd (omega arith)
 
 module _ {roster : List ℕ} {r : Recovery} (g : Good roster r) where
   -- a buffer whose rows fit
-  fits_checked : (h : List ℕ) → 16 * length roster ≤ length h → Fits (length roster) (accepted_of r) (history_in (length roster) h) → checked r h ≡ C.Fits
+  fits_checked : (h : List ℕ) → 16 * length roster ≤ length h → Fits (length roster) (accepted_of r) (history_in (length roster) h) → checked r h ≡ Ok true
   unfolding outcome plain
   fits_checked h l f = fits_said (checked r h) (said (single g.fits (record { roster = g.sound; seconds = g.given }) (step g (check h)) (checked_fits l f) tt tt).0)
     where
       said : says (checked_says (checked r h)) ≡ says D.fits → checked_says (checked r h) ≡ D.fits
       said e = cc
 
-  holds_checked : (a a' : List ℕ) (H : History) → 16 * length roster ≤ length a → Holds (length roster) a a' H → Fits (length roster) (accepted_of r) H → checked r a' ≡ C.Fits
+  holds_checked : (a a' : List ℕ) (H : History) → 16 * length roster ≤ length a → Holds (length roster) a a' H → Fits (length roster) (accepted_of r) H → checked r a' ≡ Ok true
   holds_checked a a' H l y f =
       fits_checked a' (rw y.same_length l) (subst (Fits (length roster) (accepted_of r)) (sym (λ i p q. y.is_history p q i)) f)
 
-  show_checked : (i : ℕ) (a b : List ℕ) → (shown r i a b).answer ≡ S.Shown → (checked r (shown r i a b).first ≡ C.Fits) × (checked r (shown r i a b).second ≡ C.Fits)
+  show_checked : (i : ℕ) (a b : List ℕ) → (shown r i a b).answer ≡ Ok S.Shown → (checked r (shown r i a b).first ≡ Ok true) × (checked r (shown r i a b).second ≡ Ok true)
   unfolding outcome shown_gives showing_says
   show_checked i a b e = (holds_checked a (shown r i a b).first w.0 w.2 w.5 w.4.first_fits, holds_checked b (shown r i a b).second w.1 w.3 w.6 w.4.second_fits)
     where
       shows : Dictates roster (ledger_of r) (show i a b) (lent D.shown (shown r i a b).first (shown r i a b).second) (ledger_of (next r (show i a b)))
-      shows = subst (λ (s : Showing). Dictates roster (ledger_of r) (show i a b) (lent (showing_says s) (shown r i a b).first (shown r i a b).second) (ledger_of (next r (show i a b)))) e (step g (show i a b))
+      shows = subst (λ (s : Result Showing Refusal). Dictates roster (ledger_of r) (show i a b) (lent (showing_says s) (shown r i a b).first (shown r i a b).second) (ledger_of (next r (show i a b)))) e (step g (show i a b))
 
       w : (F : History) × (G : History) × (16 * length roster ≤ length a) × (16 * length roster ≤ length b) × Disagree (length roster) (accepted_of r) i F G
           × Holds (length roster) a (shown r i a b).first F × Holds (length roster) b (shown r i a b).second G
       w = shown_holds shows
 
-pub shown_checked : {roster : List ℕ} → Free roster → (cs : List Call) (i : ℕ) (a b : List ℕ) → (shown (reached roster cs) i a b).answer ≡ S.Shown
-    → (checked (reached roster cs) (shown (reached roster cs) i a b).first ≡ C.Fits) × (checked (reached roster cs) (shown (reached roster cs) i a b).second ≡ C.Fits)
+pub shown_checked : {roster : List ℕ} → Free roster → (cs : List Call) (i : ℕ) (a b : List ℕ) → (shown (reached roster cs) i a b).answer ≡ Ok S.Shown
+    → (checked (reached roster cs) (shown (reached roster cs) i a b).first ≡ Ok true) × (checked (reached roster cs) (shown (reached roster cs) i a b).second ≡ Ok true)
 shown_checked f cs = show_checked (good_left f cs)

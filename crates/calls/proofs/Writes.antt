@@ -1,4 +1,7 @@
 -- Writing a returned record, one law for each way in which the code returns. Assumes nothing.
+use Rattle.refusals.specs.declared.Refusal.{Refusal}
+use Rattle.refusals.specs.declared.Refusal.TheVariants as R
+use Rattle.std.specs.Prelude.{Option, Some, None, Result, Ok, Err}
 use mathlib.Core.Path.{◌≡◌, refl, sym, ap, ◌∙◌}
 use mathlib.Core.Bool.{Bool, true, false, ◌&&◌}
 use mathlib.Core.List.{List}
@@ -10,8 +13,6 @@ use Rattle.sets.specs.PlaceSets.{has}
 use Rattle.sets.specs.declared.PlaceSet.{PlaceSet}
 use Rattle.histories.specs.declared.Kind.{Kind}
 use Rattle.histories.specs.Histories.{History}
-use Rattle.layouts.specs.declared.Writing.{Writing}
-use Rattle.layouts.specs.declared.Writing.TheVariants as W
 use Rattle.layouts.specs.Records.{Written, unwritten, written}
 use Rattle.answers.specs.Views.{size, kind_in, accepted_in, recorded_in}
 use Rattle.answers.proofs.Views.{accepted_recorded, recorded_back}
@@ -22,15 +23,15 @@ use Rattle.calls.proofs.Keeps.{size_few}
 
 module _ (r : Recovery) (p : ℕ) (out : List ℕ) (at : ℕ) where
   -- the answer and the buffer are those of writing
-  abbrev pub Leaves : Writing → List ℕ → Type 0
+  abbrev pub Leaves : Result ℕ Refusal → List ℕ → Type 0
   Leaves a after = (a ≡ (written_of r p out at).answer) × (after ≡ (written_of r p out at).buffer)
 
-  said : (j : ℕ) → written_of r p out at ≡ unwritten j out → Leaves (W.Refused j) out
+  said : (j : Refusal) → written_of r p out at ≡ unwritten j out → Leaves (Err j) out
   unfolding unwritten
   said j e = (ap (λ (w : Written). w.answer) (sym e), ap (λ (w : Written). w.buffer) (sym e))
 
-  pub write_12 : size_of r ≤ p → Leaves (W.Refused 12) out
-  write_12 l = said 12 (written_off r refl p out at l)
+  pub write_12 : size_of r ≤ p → Leaves (Err R.OffRoster) out
+  write_12 l = said R.OffRoster (written_off r refl p out at l)
 
   module _ (l : p < size_of r) where
     -- on the roster, who is back is who is in the set
@@ -38,8 +39,8 @@ module _ (r : Recovery) (p : ℕ) (out : List ℕ) (at : ℕ) where
     unfolding accepted_of accepted_in size_of
     back_is = ap (λ (t : Bool). t && has r.returned p) (lt-ltb p (size r.count) l)
 
-    pub write_14 : has r.returned p ≡ false → Leaves (W.Refused 14) out
-    write_14 e = said 14 (written_absent r refl p out at l (back_is ∙ e))
+    pub write_14 : has r.returned p ≡ false → Leaves (Err R.NotAllowed) out
+    write_14 e = said R.NotAllowed (written_absent r refl p out at l (back_is ∙ e))
 
     -- the records' writer lays down the accepted record
     writes : has r.returned p ≡ true → (n : ℕ) → n ≡ size_of r → n ≡ length (take n r.serials) → (row : PlaceSet) → has row ≡ recorded_in r.count (has r.returned) r.rows p
@@ -53,7 +54,7 @@ module _ (r : Recovery) (p : ℕ) (out : List ℕ) (at : ℕ) where
 
     pub write_back : has r.returned p ≡ true → (n : ℕ) → n ≡ size_of r → n ≡ length (take n r.serials) → (row : PlaceSet) → has row ≡ recorded_in r.count (has r.returned) r.rows p
         → (k : Kind) → k ≡ kind_in (has r.full) p
-        → (a : Writing) (after : List ℕ) → (a ≡ (written k p (take n r.serials) (has row) out at).answer) × (after ≡ (written k p (take n r.serials) (has row) out at).buffer)
+        → (a : Result ℕ Refusal) (after : List ℕ) → (a ≡ (written k p (take n r.serials) (has row) out at).answer) × (after ≡ (written k p (take n r.serials) (has row) out at).buffer)
         → Leaves a after
     unfolding accepted_of accepted_in
     write_back b n is all row e k ek a after w =

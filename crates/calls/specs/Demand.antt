@@ -1,5 +1,7 @@
 -- Demand 3: what the accepted records (document 01's pile), and the second serials given (document 02, [2]), dictate for each call. A call
 -- holds what its caller passes, an outcome what the caller gets, lent bytes included. Nothing here knows of a recovery. Assumes nothing.
+use Rattle.refusals.specs.declared.Refusal.{Refusal}
+use Rattle.refusals.specs.Numbers as N
 use Rattle.std.specs.Prelude.{◌≡◌, true, false, ◌⊎◌, ◌↔◌, List, [], ◌∷◌, ℕ, ◌+◌, ◌*◌, ◌^◌, ◌<◌, ◌≤◌, length, get_or, set, take, drop, replicate}
 use Rattle.sets.specs.Sets.{count}
 use Rattle.histories.specs.declared.Kind.{Kind}
@@ -140,7 +142,7 @@ MayHear n A S = (b : ℕ) → (S b ≡ true) ↔ MayHaveHeard n A b
 
 -- `Dictates roster A c o B`: where A stands beside the recovery, the call c must have the outcome o, and leaves B there
 pub data Dictates (roster : List ℕ) : Ledger → Call → Outcome → Ledger → Type 0 where
-  faulty : {A : Ledger} {bytes : List ℕ} {j : ℕ} → lone (counts_as roster A.seconds) bytes ≡ L.refused j → 1 ≤ j → j ≤ 8 → Dictates roster A (offer bytes) (says (refused j)) A
+  faulty : {A : Ledger} {bytes : List ℕ} {j : Refusal} → lone (counts_as roster A.seconds) bytes ≡ L.refused j → 1 ≤ N.number j → N.number j ≤ 8 → Dictates roster A (offer bytes) (says (refused (N.number j))) A
   foreign : {A : Ledger} {bytes rest : List ℕ} {x : Stored} → lone (counts_as roster A.seconds) bytes ≡ got x rest → ¬ (x.roster ≡ roster)
       → Dictates roster A (offer bytes) (says (refused 9)) A
   repeats : {A : Ledger} {bytes : List ℕ} {x : Stored} → OfGroup roster A.seconds bytes x → A.accepted.returned x.own ≡ true → SameRecord A.accepted x

@@ -1,6 +1,8 @@
 -- What each call gives, and each lent byte afterwards, for every recovery and every input: the definitions that the contracts
 -- cite. Assumes nothing.
-use Rattle.std.specs.Prelude.{Bool, cond, List, [], ◌++◌, ℕ, ◌-◌, ◌*◌, length, set, take, replicate, leb, ltb}
+use Rattle.refusals.specs.declared.Refusal.{Refusal}
+use Rattle.refusals.specs.declared.Refusal.TheVariants as R
+use Rattle.std.specs.Prelude.{Bool, cond, Option, Result, Ok, Err, List, [], ◌++◌, ℕ, ◌-◌, ◌*◌, length, set, take, replicate, leb, ltb}
 use Rattle.sets.specs.Sets.{nothing, below, union, difference, with, count}
 use Rattle.sets.specs.PlaceSets.{has, packed}
 use Rattle.histories.specs.declared.Kind.{Kind}
@@ -11,15 +13,13 @@ use Rattle.histories.specs.Kept.{answer_by, settled_by}
 use Rattle.serials.specs.Rosters.{listed}
 use Rattle.serials.specs.Seconds.{counts_as, finding}
 use Rattle.serials.specs.declared.Finding.{Finding}
-use Rattle.serials.specs.declared.Listed.{Listed}
-use Rattle.serials.specs.declared.Listed.TheVariants as L
 use Rattle.rows.specs.Rows.{no_rows, rows_of, with_row, table_of, history_in}
 use Rattle.layouts.specs.Layout.{Parsed, got, refused, Stored, lone, layout}
 use Rattle.layouts.specs.Records.{same_list, Written, unwritten, written_at}
-use Rattle.answers.specs.Views.{size, accepted_in}
+use Rattle.answers.specs.declared.Answer as declared
+use Rattle.answers.specs.declared.Answer.TheVariants as A
+use Rattle.answers.specs.Views.{size, accepted_in, answer_of}
 use Rattle.answers.specs.Groups.{giving}
-use Rattle.answers.specs.declared.Giving.{Giving}
-use Rattle.answers.specs.declared.Giving.TheVariants as Y
 use Rattle.answers.specs.Checks.{off_roster}
 use Rattle.answers.specs.Shows.{Shown, shown_in}
 use Rattle.answers.specs.Lists.{ListedAll, listed_in}
@@ -27,16 +27,11 @@ use Rattle.answers.specs.Fetches.{blocking_by, told}
 use Rattle.answers.specs.declared.Fetching.{Fetching}
 use Rattle.answers.specs.Replies.{entering}
 use Rattle.calls.specs.declared.Recovery.{Recovery}
-use Rattle.calls.specs.declared.Opening.TheVariants as G
 use Rattle.calls.specs.declared.Opened.{Opened}
 use Rattle.answers.specs.declared.Reply.{Reply}
 use Rattle.answers.specs.declared.Reply.TheVariants as O
 use Rattle.calls.specs.declared.Offered.{Offered}
 use Rattle.calls.specs.declared.Gave.{Gave}
-use Rattle.calls.specs.declared.Asked.{Asked}
-use Rattle.calls.specs.declared.Asked.TheVariants as A
-use Rattle.calls.specs.declared.Checked.{Checked}
-use Rattle.calls.specs.declared.Checked.TheVariants as C
 
 -- ---- what a recovery holds, whatever its fields are
 
@@ -91,12 +86,12 @@ fresh s = record {
 }
 
 -- a refused opening gives a recovery of no places
-unfoldable pub unopened : ℕ → Opened
-unopened j = record { answer = G.Refused j; recovery = fresh [] }
+unfoldable pub unopened : Refusal → Opened
+unopened j = record { answer = Err j; recovery = fresh [] }
 
-unfoldable pub opened_as : List ℕ → Listed → Opened
-opened_as s L.Sound = record { answer = G.Opened; recovery = fresh s }
-opened_as s (L.Refused j) = unopened j
+unfoldable pub opened_as : List ℕ → Result (Unit {0}) Refusal → Opened
+opened_as s (Ok u) = record { answer = Ok tt; recovery = fresh s }
+opened_as s (Err j) = unopened j
 
 unfoldable pub opened : List ℕ → Opened
 opened s = opened_as s (listed s)
@@ -108,7 +103,7 @@ unfoldable pub of_group : Recovery → Stored → Bool
 of_group r x = same_list x.roster (roster_of r)
 
 -- the recovery stays as it is
-unfoldable pub saying : Recovery → Reply → Offered
+unfoldable pub saying : Recovery → Result Reply Refusal → Offered
 saying r a = record { answer = a; recovery = r }
 
 -- the place p is full, and those of M are before it
@@ -143,10 +138,10 @@ keeping r p Full M = keeping_row (keeping_full r p M) p M
 keeping r p Short M = keeping_row r p M
 
 -- what a reply to the record of p leaves: one that is taken is kept, otherwise the recovery stays as it is
-unfoldable pub answered : Recovery → ℕ → Kind → Row → Reply → Offered
-answered r p k M O.Taken = record { answer = O.Taken; recovery = keeping r p k M }
-answered r p k M O.Repeated = saying r O.Repeated
-answered r p k M (O.Refused j) = saying r (O.Refused j)
+unfoldable pub answered : Recovery → ℕ → Kind → Row → Result Reply Refusal → Offered
+answered r p k M (Ok O.Taken) = record { answer = Ok O.Taken; recovery = keeping r p k M }
+answered r p k M (Ok O.Repeated) = saying r (Ok O.Repeated)
+answered r p k M (Err j) = saying r (Err j)
 
 -- a record of the group: of p, with the kind k and the mourned set M
 unfoldable pub entered : Recovery → ℕ → Kind → Row → Offered
@@ -154,11 +149,11 @@ entered r p k M = answered r p k M (entering r.count (has r.returned) (has r.ful
 
 -- a sound record
 unfoldable pub judged : Recovery → Stored → Offered
-judged r x = cond (of_group r x) (entered r x.own x.kind x.mourned) (saying r (O.Refused 9))
+judged r x = cond (of_group r x) (entered r x.own x.kind x.mourned) (saying r (Err R.OtherGroup))
 
 unfoldable pub offered_as : Recovery → Parsed Stored → Offered
 offered_as r (got x rest) = judged r x
-offered_as r (refused j) = saying r (O.Refused j)
+offered_as r (refused j) = saying r (Err j)
 
 unfoldable pub offered : Recovery → List ℕ → Offered
 offered r bytes = offered_as r (lone (alias_of r) bytes)
@@ -168,13 +163,11 @@ offered r bytes = offered_as r (lone (alias_of r) bytes)
 unfoldable pub answer_at : Recovery → ℕ → Answer
 answer_at r i = answer_by (size_of r) (accepted_of r) (has r.mourned) (has r.earlier) i
 
-unfoldable pub asked_as : Answer → Asked
-asked_as is_last = A.Last
-asked_as not_last = A.NotLast
-asked_as is_open = A.Open
+unfoldable pub asked_as : Answer → Result declared.Answer Refusal
+asked_as a = Ok (answer_of a)
 
-unfoldable pub asked : Recovery → ℕ → Asked
-asked r i = cond (ltb i (size_of r)) (asked_as (answer_at r i)) (A.Refused 12)
+unfoldable pub asked : Recovery → ℕ → Result declared.Answer Refusal
+asked r i = cond (ltb i (size_of r)) (asked_as (answer_at r i)) (Err R.OffRoster)
 
 -- ---- listing every place: 13, or the byte of each answer laid down
 
@@ -182,10 +175,10 @@ unfoldable pub listed_of : Recovery → List ℕ → ListedAll
 listed_of r out = listed_in (size_of r) (accepted_of r) (has r.mourned) (has r.earlier) out
 
 -- the byte of what asking says: document 02, [4]
-pub data AskedByte : Asked → ℕ → Type 0 where
-  not_byte : AskedByte A.NotLast 0
-  last_byte : AskedByte A.Last 1
-  open_byte : AskedByte A.Open 2
+pub data AskedByte : Result declared.Answer Refusal → ℕ → Type 0 where
+  not_byte : AskedByte (Ok A.NotLast) 0
+  last_byte : AskedByte (Ok A.Last) 1
+  open_byte : AskedByte (Ok A.Open) 2
 
 -- ---- showing: 12, decided, 13, or both histories laid down
 
@@ -194,12 +187,12 @@ shown r i a b = shown_in (size_of r) (accepted_of r) (has r.mourned) (has r.earl
 
 -- ---- checking a lent history: 13, 15, or whether it fits
 
-unfoldable pub checked_rows : Recovery → History → Checked
+unfoldable pub checked_rows : Recovery → History → Result Bool Refusal
 checked_rows r H =
-    cond (off_roster (size_of r) H) (C.Refused 15) (cond (fits_test (size_of r) (accepted_of r) H) C.Fits C.FitsNot)
+    cond (off_roster (size_of r) H) (Err R.BitOffRoster) (Ok (fits_test (size_of r) (accepted_of r) H))
 
-unfoldable pub checked : Recovery → List ℕ → Checked
-checked r h = cond (leb (16 * size_of r) (length h)) (checked_rows r (history_in (size_of r) h)) (C.Refused 13)
+unfoldable pub checked : Recovery → List ℕ → Result Bool Refusal
+checked r h = cond (leb (16 * size_of r) (length h)) (checked_rows r (history_in (size_of r) h)) (Err R.TooShort)
 
 -- ---- the whole
 
@@ -212,7 +205,7 @@ settled_of r = settled_by (size_of r) (accepted_of r) (has r.mourned) (has r.ear
 unfoldable pub blocking_of : Recovery → Row
 blocking_of r = blocking_by (size_of r) (accepted_of r) (has r.mourned) (has r.earlier)
 
-unfoldable pub fetching_of : Recovery → Fetching
+unfoldable pub fetching_of : Recovery → Option Fetching
 fetching_of r = told (size_of r) (blocking_of r)
 
 -- ---- the two sets and the number
@@ -228,7 +221,7 @@ unmourned_count_of r = count (size_of r) (unmourned_of r)
 
 -- ---- the place of a serial, and which of the place's two it is
 
-unfoldable pub found_in : Recovery → ℕ → Finding
+unfoldable pub found_in : Recovery → ℕ → Option Finding
 found_in r x = finding (alias_of r) (roster_of r) x
 
 -- ---- giving a place a second serial: 12, 4, 16, or given
@@ -246,9 +239,9 @@ with_second r p x = record {
 }
 
 -- where it is refused, the recovery stays as it is
-unfoldable pub gave_as : Recovery → ℕ → ℕ → Giving → Gave
-gave_as r p x Y.Given = record { answer = Y.Given; recovery = with_second r p x }
-gave_as r p x (Y.Refused j) = record { answer = Y.Refused j; recovery = r }
+unfoldable pub gave_as : Recovery → ℕ → ℕ → Result (Unit {0}) Refusal → Gave
+gave_as r p x (Ok u) = record { answer = Ok tt; recovery = with_second r p x }
+gave_as r p x (Err j) = record { answer = Err j; recovery = r }
 
 unfoldable pub given : Recovery → ℕ → ℕ → Gave
 given r p x = gave_as r p x (giving r.count r.serials r.seconds p x)
@@ -261,4 +254,4 @@ record_of r p = record { kind = (accepted_of r).kind p; own = p; roster = roster
 
 unfoldable pub written_of : Recovery → ℕ → List ℕ → ℕ → Written
 written_of r p out at =
-    cond (ltb p (size_of r)) (cond ((accepted_of r).returned p) (written_at (layout (record_of r p)) out at) (unwritten 14 out)) (unwritten 12 out)
+    cond (ltb p (size_of r)) (cond ((accepted_of r).returned p) (written_at (layout (record_of r p)) out at) (unwritten R.NotAllowed out)) (unwritten R.OffRoster out)

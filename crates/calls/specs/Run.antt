@@ -1,81 +1,72 @@
 -- A list of calls on a recovery: each gets it as the one before returned or left it, and gives what its contract says.
 -- Assumes nothing.
-use Rattle.std.specs.Prelude.{cond, List, [], ◌∷◌, ℕ}
+use Rattle.refusals.specs.declared.Refusal.{Refusal}
+use Rattle.refusals.specs.Numbers as N
+use Rattle.answers.specs.declared.Answer as declared
+use Rattle.answers.specs.declared.Answer.TheVariants as A
+use Rattle.std.specs.Prelude.{Bool, true, false, Option, Some, None, Result, Ok, Err, cond, List, [], ◌∷◌, ℕ}
 use Rattle.serials.specs.declared.Finding.{Finding}
 use Rattle.serials.specs.declared.Finding.TheVariants as F
-use Rattle.answers.specs.declared.Giving.{Giving}
-use Rattle.answers.specs.declared.Giving.TheVariants as Y
-use Rattle.layouts.specs.declared.Writing.{Writing}
-use Rattle.layouts.specs.declared.Writing.TheVariants as W
 use Rattle.layouts.specs.Records.{Written}
 use Rattle.calls.specs.declared.Recovery.{Recovery}
-use Rattle.calls.specs.declared.Opening.{Opening}
-use Rattle.calls.specs.declared.Opening.TheVariants as G
 use Rattle.answers.specs.declared.Reply.{Reply}
 use Rattle.answers.specs.declared.Reply.TheVariants as O
-use Rattle.calls.specs.declared.Asked.{Asked}
-use Rattle.calls.specs.declared.Asked.TheVariants as A
 use Rattle.answers.specs.declared.Showing.{Showing}
 use Rattle.answers.specs.declared.Showing.TheVariants as S
 use Rattle.answers.specs.Shows.{Shown}
-use Rattle.answers.specs.declared.Listing.{Listing}
-use Rattle.answers.specs.declared.Listing.TheVariants as I
 use Rattle.answers.specs.Lists.{ListedAll}
 use Rattle.answers.specs.declared.Fetching.{Fetching}
-use Rattle.answers.specs.declared.Fetching.TheVariants as E
-use Rattle.calls.specs.declared.Checked.{Checked}
-use Rattle.calls.specs.declared.Checked.TheVariants as C
 use Rattle.calls.specs.Promises.{accepted_of, seconds_of, opened, offered, asked, shown, checked, settled_of, fetching_of, unmourned_of, unmourned_absent_of, unmourned_count_of, found_in, given, written_of, listed_of}
 use Rattle.calls.specs.Demand as D
 use Rattle.calls.specs.Demand.{Said, Ledger, Call, offer, ask, show, check, whole, to_fetch, unmourned, list_unmourned_absent, count_unmourned, find, give, write, list, Outcome, says, lent, lent_one, places, number}
 
 -- ---- document 01's word and number for each answer of the code
 
-unfoldable pub opening_says : Opening → Said
-opening_says G.Opened = D.opened
-opening_says (G.Refused j) = D.refused j
+unfoldable pub opening_says : Result (Unit {0}) Refusal → Said
+opening_says (Ok u) = D.opened
+opening_says (Err j) = D.refused (N.number j)
 
-unfoldable pub offer_says : Reply → Said
-offer_says O.Taken = D.taken
-offer_says O.Repeated = D.repeated
-offer_says (O.Refused j) = D.refused j
+unfoldable pub offer_says : Result Reply Refusal → Said
+offer_says (Ok O.Taken) = D.taken
+offer_says (Ok O.Repeated) = D.repeated
+offer_says (Err j) = D.refused (N.number j)
 
-unfoldable pub asked_says : Asked → Said
-asked_says A.Last = D.is_last
-asked_says A.NotLast = D.not_last
-asked_says A.Open = D.is_open
-asked_says (A.Refused j) = D.refused j
+unfoldable pub asked_says : Result declared.Answer Refusal → Said
+asked_says (Ok A.Last) = D.is_last
+asked_says (Ok A.NotLast) = D.not_last
+asked_says (Ok A.Open) = D.is_open
+asked_says (Err j) = D.refused (N.number j)
 
-unfoldable pub showing_says : Showing → Said
-showing_says S.Shown = D.shown
-showing_says S.Decided = D.decided
-showing_says (S.Refused j) = D.refused j
+unfoldable pub showing_says : Result Showing Refusal → Said
+showing_says (Ok S.Shown) = D.shown
+showing_says (Ok S.Decided) = D.decided
+showing_says (Err j) = D.refused (N.number j)
 
-unfoldable pub checked_says : Checked → Said
-checked_says C.Fits = D.fits
-checked_says C.FitsNot = D.fits_not
-checked_says (C.Refused j) = D.refused j
+unfoldable pub checked_says : Result Bool Refusal → Said
+checked_says (Ok true) = D.fits
+checked_says (Ok false) = D.fits_not
+checked_says (Err j) = D.refused (N.number j)
 
-unfoldable pub fetching_says : Fetching → Said
-fetching_says E.Settled = D.settled
-fetching_says (E.Needs k p) = D.fetches k p.0
+unfoldable pub fetching_says : Option Fetching → Said
+fetching_says None = D.settled
+fetching_says (Some f) = D.fetches f.number f.next.0
 
-unfoldable pub writing_says : Writing → Said
-writing_says (W.Next e) = D.ends e
-writing_says (W.Refused j) = D.refused j
+unfoldable pub writing_says : Result ℕ Refusal → Said
+writing_says (Ok e) = D.ends e
+writing_says (Err j) = D.refused (N.number j)
 
-unfoldable pub found_says : Finding → Said
-found_says (F.First p) = D.first_of p.0
-found_says (F.Second p) = D.second_of p.0
-found_says F.Nothing = D.not_found
+unfoldable pub found_says : Option Finding → Said
+found_says (Some (F.First p)) = D.first_of p.0
+found_says (Some (F.Second p)) = D.second_of p.0
+found_says None = D.not_found
 
-unfoldable pub giving_says : Giving → Said
-giving_says Y.Given = D.given
-giving_says (Y.Refused j) = D.refused j
+unfoldable pub giving_says : Result (Unit {0}) Refusal → Said
+giving_says (Ok u) = D.given
+giving_says (Err j) = D.refused (N.number j)
 
-unfoldable pub listing_says : Listing → Said
-listing_says I.Laid = D.listed
-listing_says (I.Refused j) = D.refused j
+unfoldable pub listing_says : Result (Unit {0}) Refusal → Said
+listing_says (Ok u) = D.listed
+listing_says (Err j) = D.refused (N.number j)
 
 unfoldable pub shown_gives : Shown → Outcome
 shown_gives s = lent (showing_says s.answer) s.first s.second

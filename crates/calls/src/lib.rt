@@ -2,7 +2,8 @@
 // decided, the order of records, the round trips. The functions stand in `openings`, `offerings`, `askings` and `showings`.
 #![tactic(auto)]
 
-use answers::{Giving, Reply};
+use answers::Reply;
+use refusals::Refusal;
 use rows::Rows;
 use sets::PlaceSet;
 
@@ -21,44 +22,23 @@ pub struct Recovery {
     pub rows: Rows,
 }
 
-#[derive(Clone, Copy)]
-pub enum Opening {
-    Opened,
-    Refused(u8),
-}
-
 // What opening gives: where it is refused, the recovery has no places.
 #[derive(Clone, Copy)]
 pub struct Opened {
-    pub answer: Opening,
+    pub answer: Result<(), Refusal>,
     pub recovery: Recovery,
 }
 
 // What offering gives: where nothing was taken, the recovery is as it was.
 #[derive(Clone, Copy)]
 pub struct Offered {
-    pub answer: Reply,
+    pub answer: Result<Reply, Refusal>,
     pub recovery: Recovery,
 }
 
 // What giving a second serial gives: where it is refused, the recovery is as it was.
 #[derive(Clone, Copy)]
 pub struct Gave {
-    pub answer: Giving,
+    pub answer: Result<(), Refusal>,
     pub recovery: Recovery,
-}
-
-#[derive(Clone, Copy)]
-pub enum Asked {
-    Last,
-    NotLast,
-    Open,
-    Refused(u8),
-}
-
-#[derive(Clone, Copy)]
-pub enum Checked {
-    Fits,
-    FitsNot,
-    Refused(u8),
 }

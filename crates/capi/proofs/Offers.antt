@@ -1,4 +1,8 @@
 -- Offering over a recovery in the caller's memory: what a reply leaves there, and that it is what offering leaves. Assumes nothing.
+use Rattle.refusals.specs.Numbers.{number}
+use Rattle.refusals.specs.declared.Refusal.{Refusal}
+use Rattle.refusals.specs.declared.Refusal.TheVariants as R
+use Rattle.std.specs.Prelude.{Option, Some, None, Result, Ok, Err}
 use mathlib.Core.Path.{◌≡◌, refl, sym, ap, ◌∙◌}
 use mathlib.Core.List.{List, [], ◌∷◌}
 use Prim.Native.Nat.{ℕ}
@@ -13,7 +17,6 @@ use Rattle.histories.specs.declared.Kind.TheVariants.{Full, Short}
 use Rattle.histories.specs.Histories.{Row}
 use Rattle.rows.specs.Rows.{with_row}
 use Rattle.layouts.specs.declared.Record.{Record}
-use Rattle.layouts.specs.declared.Reading.TheVariants as R
 use Rattle.layouts.specs.Records.{reading_lone}
 use Rattle.answers.specs.Groups.{alias_in}
 use Rattle.answers.specs.declared.Reply.{Reply}
@@ -101,7 +104,7 @@ keeping_rows r p Short M = refl
 
 -- ---- what a reply leaves
 
-module _ (head rows : List ℕ) (p : ℕ) (k : Kind) (M : Row) (reply : Reply) where
+module _ (head rows : List ℕ) (p : ℕ) (k : Kind) (M : Row) (reply : Result Reply Refusal) where
   -- the number of a reply to the record of p, and the words and the rows that it leaves
   abbrev pub Leaves : ℕ → List ℕ → List ℕ → Type 0
   Leaves c h t =
@@ -111,25 +114,25 @@ module _ (head rows : List ℕ) (p : ℕ) (k : Kind) (M : Row) (reply : Reply) w
       )
 
   module _ (l : length head ≡ 9) where
-    pub leaves_repeated : reply ≡ O.Repeated → Leaves 32 head rows
+    pub leaves_repeated : reply ≡ Ok O.Repeated → Leaves 32 head rows
     unfolding reply_code answered saying recovery_in
     leaves_repeated e = rw e (refl, (λ serials seconds. same_head head l serials seconds rows, λ serials seconds. refl))
 
-    pub leaves_refused : (j : ℕ) → reply ≡ O.Refused j → Leaves j head rows
+    pub leaves_refused : (j : Refusal) (c : ℕ) → c ≡ number j → reply ≡ Err j → Leaves c head rows
     unfolding reply_code answered saying recovery_in
-    leaves_refused j e = rw e (refl, (λ serials seconds. same_head head l serials seconds rows, λ serials seconds. refl))
+    leaves_refused j c n e = rw e (n, (λ serials seconds. same_head head l serials seconds rows, λ serials seconds. refl))
 
-pub leaves_taken : (head rows : List ℕ) (p : ℕ) (k : Kind) (m : PlaceSet) (reply : Reply) (h t : List ℕ) → reply ≡ O.Taken → Kept head p k (has m) h → Words m → t ≡ with_row rows p m
+pub leaves_taken : (head rows : List ℕ) (p : ℕ) (k : Kind) (m : PlaceSet) (reply : Result Reply Refusal) (h t : List ℕ) → reply ≡ Ok O.Taken → Kept head p k (has m) h → Words m → t ≡ with_row rows p m
     → Leaves head rows p k (has m) reply 0 h t
 unfolding reply_code answered recovery_in
 leaves_taken head rows p k m reply h t e f w g =
     rw e (refl, (λ serials seconds. f serials seconds rows, λ serials seconds. g ∙ ap (with_row rows p) (packed_is m (has m) w (sym (kept_has m))) ∙ keeping_rows (recovery_in head serials seconds rows) p k (has m)))
 
-answered_reply : (r : Recovery) (p : ℕ) (k : Kind) (M : Row) (a : Reply) → a ≡ (answered r p k M a).answer
+answered_reply : (r : Recovery) (p : ℕ) (k : Kind) (M : Row) (a : Result Reply Refusal) → a ≡ (answered r p k M a).answer
 unfolding answered saying
-answered_reply r p k M O.Taken = refl
-answered_reply r p k M O.Repeated = refl
-answered_reply r p k M (O.Refused j) = refl
+answered_reply r p k M (Ok O.Taken) = refl
+answered_reply r p k M (Ok O.Repeated) = refl
+answered_reply r p k M (Err j) = refl
 
 -- ---- offering
 
@@ -140,8 +143,8 @@ module _ (head serials seconds rows bytes : List ℕ) where
       (c ≡ (offered_held head serials seconds rows bytes).code)
       × ((h ≡ (offered_held head serials seconds rows bytes).head) × (t ≡ (offered_held head serials seconds rows bytes).rows))
 
-  pub offers_read : (h : Head) → Says head h → (x : Record) → reading_lone (alias_in h.count serials seconds) bytes ≡ R.Read x
-      → (reply : Reply) → reply ≡ judgement h.count serials (has h.returned) (has h.full) rows bytes x
+  pub offers_read : (h : Head) → Says head h → (x : Record) → reading_lone (alias_in h.count serials seconds) bytes ≡ Ok x
+      → (reply : Result Reply Refusal) → reply ≡ judgement h.count serials (has h.returned) (has h.full) rows bytes x
       → (c : ℕ) (after t : List ℕ) → Leaves head rows x.own.0 x.kind (has x.mourned) reply c after t → Offers c after t
   unfolding offered_held recovery_in
   offers_read h says x e reply f c after t (lc, (lh, lt)) = (
@@ -167,10 +170,10 @@ module _ (head serials seconds rows bytes : List ℕ) where
       is : answered r p k M reply ≡ offered r bytes
       is = ap (answered r p k M) judged ∙ offered_read r bytes x (ap (λ (n : ℕ). reading_lone (alias_in n serials seconds) bytes) (sym says.0) ∙ e)
 
-  pub offers_unread : (h : Head) → Says head h → (j : ℕ) → reading_lone (alias_in h.count serials seconds) bytes ≡ R.Refused j → length head ≡ 9 → Offers j head rows
+  pub offers_unread : (h : Head) → Says head h → (j : Refusal) (c : ℕ) → c ≡ number j → reading_lone (alias_in h.count serials seconds) bytes ≡ Err j → length head ≡ 9 → Offers c head rows
   unfolding offered_held recovery_in reply_code saying
-  offers_unread h says j e l =
+  offers_unread h says j c n e l =
       let is = offered_unread (recovery_in head serials seconds rows) bytes j (ap (λ (n : ℕ). reading_lone (alias_in n serials seconds) bytes) (sym says.0) ∙ e) in (
-        ap (λ (o : Offered). reply_code o.answer) is,
+        n ∙ ap (λ (o : Offered). reply_code o.answer) is,
         (same_head head l serials seconds rows ∙ ap (λ (o : Offered). head_of o.recovery) is, ap (λ (o : Offered). o.recovery.rows) is),
       )

@@ -8,27 +8,26 @@ ghost use Rattle.sets.specs.PlaceSets.{has};
 ghost use Rattle.calls.specs.Promises.{keeping_full, keeping_row, keeping, answered, found_in, given};
 ghost use Rattle.boundary.specs.Recoveries.{recovery_in, head_of, opened_held, offered_held, reply_code, found_of, giving_code};
 
-use answers::{Giving, Reply};
+use answers::Reply;
 use boundary::{FoundNow, Head};
-use calls::Opening;
 use histories::Kind;
-use layouts::Reading;
+use refusals::Refusal;
 use serials::{Finding, Serial};
 use sets::{Place, PlaceSet};
 
-fn found_now(found: Finding) -> FoundNow
+fn found_now(found: Option<Finding>) -> FoundNow
     ensures { result ≡ found_of found }
 {
     match found {
-        Finding::First(place) => FoundNow {
+        Some(Finding::First(place)) => FoundNow {
             answer: 39,
             place: place.0 as u64,
         },
-        Finding::Second(place) => FoundNow {
+        Some(Finding::Second(place)) => FoundNow {
             answer: 40,
             place: place.0 as u64,
         },
-        Finding::Nothing => FoundNow {
+        None => FoundNow {
             answer: 41,
             place: 128,
         },
@@ -61,7 +60,7 @@ pub extern "C" fn gm_open(
     let others = r.seconds;
     let recorded = r.rows;
     match answer {
-        Opening::Opened => {
+        Ok(()) => {
             let h = Head {
                 count: r.count,
                 returned,
@@ -75,7 +74,7 @@ pub extern "C" fn gm_open(
             *rows = recorded;
             0
         }
-        Opening::Refused(fault) => fault,
+        Err(fault) => fault as u8,
     }
 }
 
@@ -123,7 +122,7 @@ fn answer_with(
     own: Place,
     kind: Kind,
     row: PlaceSet,
-    reply: Reply,
+    reply: Result<Reply, Refusal>,
 ) -> u8
     requires { length head.old ≡ 9 }
     ensures value { result ≡ reply_code reply }
@@ -131,13 +130,13 @@ fn answer_with(
     ensures by_index_2 { (serials seconds : List ℕ) → rows.new ≡ (answered (recovery_in head.old serials seconds rows.old) own.0 kind (has row) reply).recovery.rows }
 {
     match reply {
-        Reply::Taken => {
+        Ok(Reply::Taken) => {
             mark(head, own, kind, row);
             row_tables::set(rows, own, row);
             0
         }
-        Reply::Repeated => 32,
-        Reply::Refused(fault) => fault,
+        Ok(Reply::Repeated) => 32,
+        Err(fault) => fault as u8,
     }
 }
 
@@ -159,14 +158,14 @@ pub extern "C" fn gm_offer<'a>(
     let full = h.full;
     let got = groups::read_lone(h.count, serials, seconds, bytes);
     match got {
-        Reading::Read(x) => {
+        Ok(x) => {
             let reply = replies::judge(h.count, serials, returned, full, rows, bytes, x);
             let own = x.own;
             let kind = x.kind;
             let row = x.mourned;
             answer_with(head, rows, own, kind, row, reply)
         }
-        Reading::Refused(fault) => fault,
+        Err(fault) => fault as u8,
     }
 }
 
@@ -201,10 +200,10 @@ pub extern "C" fn gm_give(
     let h = words::read_head(head);
     let answer = groups::may_give(h.count, serials, seconds, Place(place), Serial(serial));
     match answer {
-        Giving::Given => {
+        Ok(()) => {
             seconds[place] = serial;
             0
         }
-        Giving::Refused(fault) => fault,
+        Err(fault) => fault as u8,
     }
 }

@@ -7,16 +7,17 @@ ghost use Rattle.calls.specs.Promises.{asked, settled_of, unmourned_of, unmourne
 ghost use Rattle.boundary.specs.Words.{yes_code};
 ghost use Rattle.boundary.specs.Recoveries.{recovery_in, asked_code, listing_code, words_of};
 
-use answers::{Answer, Listing};
+use answers::Answer;
+use refusals::Refusal;
 use sets::Place;
 
 // The number of an answer to listing.
-fn listing_code(answer: Listing) -> u8
+fn listing_code(answer: Result<(), Refusal>) -> u8
     ensures { result ≡ listing_code answer }
 {
     match answer {
-        Listing::Laid => 0,
-        Listing::Refused(fault) => fault,
+        Ok(()) => 0,
+        Err(fault) => fault as u8,
     }
 }
 

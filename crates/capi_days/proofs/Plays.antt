@@ -1,4 +1,9 @@
 -- A list of events on a day by value: one event after another gives what playing them gives. Assumes nothing.
+use Rattle.refusals.specs.declared.Refusal.{Refusal}
+use Rattle.refusals.specs.declared.Refusal.TheVariants as R
+use Rattle.refusals.specs.Numbers.{number}
+use Rattle.refusals.proofs.Numbers.{as_numbered}
+use Rattle.std.specs.Prelude.{Result, Ok, Err}
 use mathlib.Core.Path.{◌≡◌, refl, sym, ap, ◌∙◌}
 use mathlib.Core.Bool.{Bool, true, false, cond}
 use mathlib.Core.List.{List, [], ◌∷◌}
@@ -8,31 +13,26 @@ use native.Mathlib.Omega.{arith}
 use lib.ListN.{length, drop, get_or}
 use lib.Seq.{drop-cons, drop-length}
 use lib.Dec.{eqb, ltb}
-use borrow.Author.Tests.{eq-eqb, ne_eqb, lt-ltb, le-ltb, ltb-false}
+use borrow.Author.Tests.{eq-eqb, ne_eqb, ltb-false}
 use Rattle.executions.specs.declared.Day.{Day}
 use Rattle.executions.specs.declared.Event.{Event}
 use Rattle.executions.specs.declared.Happened.{Happened}
 use Rattle.executions.specs.declared.Played.{Played}
 use Rattle.executions.specs.Executions.{fault}
-use Rattle.executions.specs.Promises.{size_of, execution_of, stopping, hearing, day_after, happened, counted, stepped, played_from, played}
+use Rattle.executions.specs.Promises.{size_of, execution_of, stopping, hearing, day_after, happened_as, happened, counted, stepped_as, stepped, played_from, played}
+use Rattle.executions.proofs.Plays.{counted_day}
 use Rattle.boundary.specs.declared.DayNow.{DayNow}
 use Rattle.boundary.specs.declared.EventNow.{EventNow}
 use Rattle.boundary.specs.declared.PlayedNow.{PlayedNow}
 use Rattle.boundary.specs.Words.{set_at}
-use Rattle.boundary.specs.Days.{kind_in, stopped_in, day_in, event_of, with_stopped, day_of, day_now, event_in, events_in, played_as, played_now, played_of, stepped_now}
+use Rattle.boundary.specs.Days.{kind_in, stopped_in, day_in, event_of, with_stopped, done_code, day_of, day_now, event_in, events_in, played_as, played_now, stepped_now}
 use Rattle.capi_days.proofs.Days.{same_head}
 
 -- ---- a kind as a byte
 
-pub byte_small : (kind : ℕ) → kind < 256 → kind ≡ cond (ltb kind 256) kind 0
-byte_small kind l = rw (lt-ltb kind 256 l)
-
-pub byte_large : (kind : ℕ) → 256 ≤ kind → 0 ≡ cond (ltb kind 256) kind 0
-byte_large kind l = rw (le-ltb kind 256 l)
-
 -- an event of an unknown kind is refused by 14
-unknown : (d : Day) (kind p q : ℕ) → (kind ≡ 1 → ⊥) → (kind ≡ 2 → ⊥) → happened d (event_of kind p q) ≡ record { refusal = 14; day = d }
-unfolding happened fault event_of
+unknown : (d : Day) (kind p q : ℕ) → (kind ≡ 1 → ⊥) → (kind ≡ 2 → ⊥) → happened d (event_of kind p q) ≡ record { answer = Err R.NotAllowed; day = d }
+unfolding happened happened_as fault event_of
 unknown d kind p q a b = rw (ne_eqb kind 1 a, ne_eqb kind 2 b)
 
 byte_same : (d : Day) (kind p q : ℕ) → happened d (event_of (cond (ltb kind 256) kind 0) p q) ≡ happened d (event_of kind p q)
@@ -54,6 +54,9 @@ record Same (d after : Day) : Type 0 where
 same_here : (d : Day) → Same d d
 same_here d = record { kind = refl; count = refl; serials = refl }
 
+same_on : {a b c : Day} → Same a b → Same b c → Same a c
+same_on s t = record { kind = t.kind ∙ s.kind; count = t.count ∙ s.count; serials = t.serials ∙ s.serials }
+
 same_after : (d : Day) (e : Event) → Same d (day_after d e)
 unfolding day_after stopping hearing
 same_after d e = go (eqb e.kind 1)
@@ -63,21 +66,20 @@ same_after d e = go (eqb e.kind 1)
     go false = record { kind = refl; count = refl; serials = refl }
 
 same_happened : (d : Day) (e : Event) → Same d (happened d e).day
-unfolding happened
-same_happened d e = go (eqb (fault (size_of d) (execution_of d) e) 0)
+unfolding happened happened_as
+same_happened d e = go (fault (size_of d) (execution_of d) e)
   where
-    go : (t : Bool) → Same d (cond {A = Happened} t (record { refusal = 0; day = day_after d e }) (record { refusal = fault (size_of d) (execution_of d) e; day = d })).day
-    go true = same_after d e
-    go false = same_here d
+    go : (a : Result (Unit {0}) Refusal) → Same d (happened_as d e a).day
+    go (Ok u) = same_after d e
+    go (Err j) = same_here d
 
-same_stepped : (p : Played) (e : Event) → Same p.day (stepped p e).day
-unfolding stepped counted
-same_stepped p e = go (eqb p.refusal 0) (eqb (happened p.day e).refusal 0) refl
+same_stepped : (d : Day) (p : Played) (e : Event) → Same d p.day → Same d (stepped p e).day
+unfolding stepped stepped_as
+same_stepped d p e s = go p.answer
   where
-    go : (t u : Bool) → eqb (happened p.day e).refusal 0 ≡ u → Same p.day (cond t (counted p.count (happened p.day e)) p).day
-    go true true f = rw f (same_happened p.day e)
-    go true false f = rw f (same_happened p.day e)
-    go false u f = same_here p.day
+    go : (a : Result (Unit {0}) Refusal) → Same d (stepped_as p e a).day
+    go (Ok u) = rw (counted_day p.count (happened p.day e)) (same_on s (same_happened p.day e))
+    go (Err j) = s
 
 -- ---- a day in its struct
 
@@ -85,43 +87,27 @@ same_day : (d : DayNow) → length d.head ≡ 4 → d ≡ day_now d (day_of d)
 unfolding day_now day_of day_in
 same_day d l = λ i. record { head = same_head d.head l i; serials = d.serials; rows = d.rows }
 
-as_itself : (p : PlayedNow) → length p.day.head ≡ 4 → p ≡ played_as p.day (played_of p)
-unfolding played_as played_of
-as_itself p l = λ i. record { count = p.count; refusal = p.refusal; day = same_day p.day l i }
-
 -- what is in a struct is what was put there, where the kind, the count and the serials are its own
-put_back : (d : DayNow) (q : Played) → Same (day_of d) q.day → played_of (played_as d q) ≡ q
-unfolding played_of played_as day_of day_now day_in kind_in stopped_in set_at with_stopped
-put_back d q s = λ i. record {
-  count = q.count;
-  refusal = q.refusal;
-  day = record { kind = sym s.kind i; count = sym s.count i; serials = sym s.serials i; stopped = q.day.stopped; rows = q.day.rows };
-}
-
-put_twice : (d : DayNow) (p q : Played) → played_as (played_as d p).day q ≡ played_as d q
-unfolding played_as day_now with_stopped
-put_twice d p q = refl
-
-put_four : (d : DayNow) (q : Played) → length (played_as d q).day.head ≡ 4
-unfolding played_as day_now with_stopped
-put_four d q = refl
+put_back : (d : DayNow) (x : Day) → Same (day_of d) x → day_of (day_now d x) ≡ x
+unfolding day_of day_now day_in kind_in stopped_in set_at with_stopped
+put_back d x s = λ i. record { kind = sym s.kind i; count = sym s.count i; serials = sym s.serials i; stopped = x.stopped; rows = x.rows }
 
 -- ---- one event
 
 module _ (p : PlayedNow) (e : EventNow) where
-  pub step_refused : (p.refusal ≡ 0 → ⊥) → length p.day.head ≡ 4 → p ≡ stepped_now p e
-  unfolding stepped_now stepped played_of
-  step_refused r l = rw (ne_eqb p.refusal 0 r) (as_itself p l)
+  pub step_refused : (p.refusal ≡ 0 → ⊥) → p ≡ stepped_now p e
+  unfolding stepped_now
+  step_refused r = rw (ne_eqb p.refusal 0 r)
 
-  pub step_on : (d : Day) (k : ℕ) (q : Played) (after : DayNow) → p.refusal ≡ 0 → d ≡ day_of p.day → k ≡ cond (ltb e.kind 256) e.kind 0
-      → q ≡ stepped (record { count = p.count; refusal = 0; day = d }) (event_of k e.place e.other) → after ≡ day_now p.day q.day
-      → record { count = q.count; refusal = q.refusal; day = after } ≡ stepped_now p e
-  unfolding stepped_now stepped played_of played_as event_in
-  step_on d k q after r f g h i =
+  pub step_on : (d : Day) (k : ℕ) (q : Played) (after : DayNow) (c : ℕ) → p.refusal ≡ 0 → d ≡ day_of p.day → k ≡ cond (ltb e.kind 256) e.kind 0
+      → q ≡ stepped (record { count = p.count; answer = Ok tt; day = d }) (event_of k e.place e.other) → after ≡ day_now p.day q.day → c ≡ done_code q.answer
+      → record { count = q.count; refusal = c; day = after } ≡ stepped_now p e
+  unfolding stepped_now stepped stepped_as played_as event_in
+  step_on d k q after c r f g h i z =
       let is : q ≡ counted p.count (happened (day_of p.day) (event_of e.kind e.place e.other)) =
       h ∙ ap (λ (x : Happened). counted p.count x) (ap (λ (d : Day). happened d (event_of k e.place e.other)) f
       ∙ ap (λ (k : ℕ). happened (day_of p.day) (event_of k e.place e.other)) g ∙ byte_same (day_of p.day) e.kind e.place e.other) in
-      rw (eq-eqb p.refusal 0 r) (ap (λ (a : DayNow). record { count = q.count; refusal = q.refusal; day = a }) i ∙ ap (played_as p.day) is)
+      rw (eq-eqb p.refusal 0 r, z) (ap (λ (a : DayNow). record { count = q.count; refusal = done_code q.answer; day = a }) i ∙ ap (played_as p.day) is)
 
 -- ---- a list of events
 
@@ -129,24 +115,31 @@ unfoldable pub played_from_now : PlayedNow → List EventNow → PlayedNow
 played_from_now p [] = p
 played_from_now p (e ∷ es) = played_from_now (stepped_now p e) es
 
-from_now : (es : List EventNow) (p : PlayedNow) → length p.day.head ≡ 4 → played_from_now p es ≡ played_as p.day (played_from (played_of p) (events_in es))
-unfolding played_from_now played_from events_in stepped_now played_of
-from_now [] p l = as_itself p l
-from_now (e ∷ es) p l =
-    from_now es (stepped_now p e) (put_four p.day s)
-    ∙ put_twice p.day s (played_from (played_of (stepped_now p e)) (events_in es))
-    ∙ ap (λ (q : Played). played_as p.day (played_from q (events_in es))) (put_back p.day s (same_stepped (played_of p) (event_in e)))
+-- a step on what was put into a struct
+step_put : (d : DayNow) (q : Played) (e : EventNow) → Same (day_of d) q.day → stepped_now (played_as d q) e ≡ played_as d (stepped q (event_in e))
+unfolding stepped_now stepped stepped_as played_as done_code day_now with_stopped
+step_put d q e s = go q.answer
   where
-    s : Played
-    s = stepped (played_of p) (event_in e)
+    go : (a : Result (Unit {0}) Refusal)
+        → stepped_now (played_as d (record { count = q.count; answer = a; day = q.day })) e ≡ played_as d (stepped (record { count = q.count; answer = a; day = q.day }) (event_in e))
+    go (Ok u) = ap (λ (x : Day). played_as d (counted q.count (happened x (event_in e)))) (put_back d q.day s)
+    go (Err j) = rw (ne_eqb (number j) 0 (λ z. omega (arith, as_numbered j)))
+
+from_now : (es : List EventNow) (d : DayNow) (q : Played) → Same (day_of d) q.day → played_from_now (played_as d q) es ≡ played_as d (played_from q (events_in es))
+unfolding played_from_now played_from events_in
+from_now [] d q s = refl
+from_now (e ∷ es) d q s =
+    ap (λ (p : PlayedNow). played_from_now p es) (step_put d q e s) ∙ from_now es d (stepped q (event_in e)) (same_stepped (day_of d) q (event_in e) s)
 
 -- before any event
 abbrev pub start : DayNow → PlayedNow
 start d = record { count = 0; refusal = 0; day = d }
 
 pub played_is : (d : DayNow) (es : List EventNow) → length d.head ≡ 4 → played_now d es ≡ played_from_now (start d) es
-unfolding played_now played played_of
-played_is d es l = sym (from_now es (start d) l)
+unfolding played_now played played_as done_code
+played_is d es l =
+    sym (from_now es d (record { count = 0; answer = Ok tt; day = day_of d }) (same_here (day_of d)))
+    ∙ ap (λ (a : DayNow). played_from_now (record { count = 0; refusal = 0; day = a }) es) (sym (same_day d l))
 
 -- the event at i is next, or all are played
 pub play_step : (es : List EventNow) (i : ℕ) (p : PlayedNow) (z : EventNow) → i < length es → played_from_now p (drop i es) ≡ played_from_now (stepped_now p (get_or es i z)) (drop (i + 1) es)

@@ -2,14 +2,15 @@
 // promises of its pointers. What the words and numbers mean stands in `boundary`.
 #![tactic(auto)]
 
-ghost use Rattle.std.specs.Prelude.{◌≡◌, cond, [], ◌∷◌, length, get_or, ltb};
+ghost use Rattle.std.specs.Prelude.{◌≡◌, cond, [], ◌∷◌, get_or, ltb};
 ghost use Rattle.executions.specs.Promises as days;
 ghost use Rattle.boundary.specs.Words.{end_of};
-ghost use Rattle.boundary.specs.Days.{kind_in, stopped_in, day_in, event_of, day_head_of, with_stopped, begun_held, happened_held, day_of, day_now, played_now, stepped_now};
+ghost use Rattle.boundary.specs.Days.{kind_in, stopped_in, day_in, event_of, day_head_of, with_stopped, done_code, begun_held, happened_held, day_of, day_now, played_now, stepped_now};
 
 use boundary::{DayHead, DayNow, End, EventNow, PlayedNow};
 use executions::{Day, Event, Played};
 use histories::Kind;
+use refusals::Refusal;
 use sets::{Place, PlaceSet};
 
 fn kind_of(word: u64) -> Kind
@@ -21,8 +22,7 @@ fn kind_of(word: u64) -> Kind
     Kind::Full
 }
 
-fn read_day_head(head: &[u64]) -> DayHead
-    requires { length head.now ≡ 4 }
+fn read_day_head(head: &[u64; 4]) -> DayHead
     ensures kind_value { result.kind ≡ kind_in head.now }
     ensures count_value { result.count ≡ get_or head.now 1 0 }
     ensures stopped_value { result.stopped ≡ stopped_in head.now }
@@ -54,6 +54,16 @@ fn write_stopped(head: &mut [u64; 4], stopped: PlaceSet)
     *head = words;
 }
 
+// An answer as a number: 0 where it was done, else that of the refusal.
+fn done_code(answer: Result<(), Refusal>) -> u8
+    ensures { result ≡ done_code answer }
+{
+    match answer {
+        Ok(()) => 0,
+        Err(refusal) => refusal as u8,
+    }
+}
+
 // Opens a day: 2, 3, 4, 5, or 0. Where it is refused, nothing is written.
 #[unsafe(no_mangle)]
 pub extern "C" fn gm_day_open(
@@ -76,13 +86,13 @@ pub extern "C" fn gm_day_open(
     let all = d.serials;
     let unheard = d.rows;
     match answer {
-        executions::Opening::Opened => {
+        Ok(()) => {
             write_day_head(head, kind, d.count, stopped);
             *serials = all;
             *rows = unheard;
             0
         }
-        executions::Opening::Refused(fault) => fault,
+        Err(fault) => fault as u8,
     }
 }
 
@@ -130,7 +140,7 @@ pub extern "C" fn gm_day_event(
     let heard = after.rows;
     write_stopped(head, stopped);
     *rows = heard;
-    happened.refusal
+    done_code(happened.answer)
 }
 
 // Writes the record of one that has stopped into a lent buffer from a position on: 12, 14, 13, or 0 and where it ends.
@@ -155,10 +165,7 @@ pub extern "C" fn gm_day_write(
 fn kind_byte(kind: u64) -> u8
     ensures { result ≡ cond (ltb kind 256) kind 0 }
 {
-    if kind < 256 {
-        return kind as u8;
-    }
-    0
+    u8::try_from(kind).unwrap_or(0)
 }
 
 fn day_of(d: DayNow) -> Day
@@ -202,7 +209,7 @@ fn day_step(p: PlayedNow, e: EventNow) -> PlayedNow
     };
     let before = Played {
         count: p.count as usize,
-        refusal: 0,
+        answer: Ok(()),
         day,
     };
     let played = day_plays::step(before, event);
@@ -210,7 +217,7 @@ fn day_step(p: PlayedNow, e: EventNow) -> PlayedNow
     let day = day_now(d, after);
     PlayedNow {
         count: played.count as u64,
-        refusal: played.refusal as u64,
+        refusal: done_code(played.answer) as u64,
         day,
     }
 }
@@ -225,10 +232,8 @@ pub extern "C" fn gm_day_play(day: DayNow, events: &[EventNow]) -> PlayedNow
         refusal: 0,
         day,
     };
-    let mut at = 0;
-    while at < events.len() {
-        p = day_step(p, events[at]);
-        at += 1;
+    for e in events {
+        p = day_step(p, *e);
     }
     p
 }

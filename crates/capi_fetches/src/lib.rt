@@ -12,7 +12,7 @@ ghost use Rattle.boundary.specs.Fetches.{fetch_of, game_of};
 use answers::Fetching;
 use boundary::{FetchNow, GameNow};
 use calls::Recovery;
-use games::Played;
+use refusals::Refusal;
 use sets::PlaceSet;
 
 // The set whose two words stand from a position on.
@@ -54,30 +54,30 @@ fn recovery_in(
     }
 }
 
-fn fetch_now(told: Fetching) -> FetchNow
+fn fetch_now(told: Option<Fetching>) -> FetchNow
     ensures { result ≡ fetch_of told }
 {
     match told {
-        Fetching::Settled => FetchNow {
+        None => FetchNow {
             number: 0,
             place: 128,
         },
-        Fetching::Needs(number, place) => FetchNow {
-            number: number as u64,
-            place: place.0 as u64,
+        Some(fetching) => FetchNow {
+            number: fetching.number as u64,
+            place: fetching.next.0 as u64,
         },
     }
 }
 
-fn game_now(game: Played) -> GameNow
+fn game_now(game: Result<usize, Refusal>) -> GameNow
     ensures { result ≡ game_of game }
 {
     match game {
-        Played::Fetches(fetches) => GameNow {
+        Ok(fetches) => GameNow {
             refusal: 0,
             fetches: fetches as u64,
         },
-        Played::Refused(fault) => GameNow {
+        Err(fault) => GameNow {
             refusal: fault as u64,
             fetches: 0,
         },

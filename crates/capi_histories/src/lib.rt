@@ -9,16 +9,16 @@ ghost use Rattle.boundary.specs.Recoveries.{recovery_in, showing_code, checked_c
 
 use answers::Showing;
 use boundary::End;
-use layouts::Writing;
+use refusals::Refusal;
 use sets::Place;
 
-fn showing_code(answer: Showing) -> u8
+fn showing_code(answer: Result<Showing, Refusal>) -> u8
     ensures { result ≡ showing_code answer }
 {
     match answer {
-        Showing::Shown => 0,
-        Showing::Decided => 36,
-        Showing::Refused(fault) => fault,
+        Ok(Showing::Shown) => 0,
+        Ok(Showing::Decided) => 36,
+        Err(fault) => fault as u8,
     }
 }
 
@@ -85,7 +85,7 @@ fn write_back(
     place: Place,
     out: &mut [u8],
     at: usize,
-) -> Writing
+) -> Result<usize, Refusal>
     requires { length serials.now ≡ 128 }
     ensures by_index { (seconds : List ℕ) → result ≡ (written_of (recovery_in head.now serials.now seconds rows.now) place.0 out.old at).answer }
     ensures by_index_2 { (seconds : List ℕ) → out.new ≡ (written_of (recovery_in head.now serials.now seconds rows.now) place.0 out.old at).buffer }
@@ -95,10 +95,10 @@ fn write_back(
     let full = h.full;
     let n = standings::size(h.count);
     if n <= place.0 {
-        return Writing::Refused(12);
+        return Err(Refusal::OffRoster);
     }
     if !places::contains(returned, place) {
-        return Writing::Refused(14);
+        return Err(Refusal::NotAllowed);
     }
     let kind = standings::kind_of(full, place);
     let row = standings::recorded(rows, returned, h.count, place);

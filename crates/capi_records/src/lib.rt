@@ -12,16 +12,17 @@ ghost use Rattle.boundary.specs.Records.{read_code, read_words, sight_code, show
 
 use boundary::End;
 use histories::Kind;
-use layouts::{Reading, Sight};
+use layouts::Record;
+use refusals::Refusal;
 use sets::{Place, PlaceSet};
 
 // The seven words of a record that was read, or its refusal.
-fn put_reading(out: &mut [u64; 7], got: Reading) -> u8
+fn put_reading(out: &mut [u64; 7], got: Result<Record, Refusal>) -> u8
     ensures value { result ≡ read_code got }
     ensures out_after { out.new ≡ read_words got out.old }
 {
     match got {
-        Reading::Read(x) => {
+        Ok(x) => {
             let kind = x.kind;
             let own = x.own;
             let mourned = x.mourned;
@@ -38,7 +39,7 @@ fn put_reading(out: &mut [u64; 7], got: Reading) -> u8
             *out = words;
             0
         }
-        Reading::Refused(fault) => fault,
+        Err(fault) => fault as u8,
     }
 }
 
@@ -89,11 +90,11 @@ pub extern "C" fn gm_read_desk(
 {
     let mut roster = &bytes[..0];
     match heads::read_desk(bytes, firsts, seconds, &mut roster) {
-        Sight::Refused(fault) => fault,
-        Sight::Seen(kind, own) => {
-            let word = words::kind_word(kind);
+        Err(fault) => fault as u8,
+        Ok(seen) => {
+            let word = words::kind_word(seen.kind);
             let count = roster.len() / 4;
-            let words = [word, own.0 as u64, 6, count as u64];
+            let words = [word, seen.own.0 as u64, 6, count as u64];
             *out = words;
             0
         }

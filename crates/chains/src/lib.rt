@@ -8,7 +8,7 @@ ghost use Rattle.answers.specs.Views.{size, recorded_in, reach_from, Sought};
 
 use answers::Walked;
 use rows::Rows;
-use sets::{Found, Place, PlaceSet};
+use sets::{Place, PlaceSet};
 
 // `from`, and all that is before its members: each returned place gives its row at most once.
 pub fn reached(rows: &Rows, returned: PlaceSet, count: usize, from: PlaceSet) -> PlaceSet
@@ -20,7 +20,7 @@ pub fn reached(rows: &Rows, returned: PlaceSet, count: usize, from: PlaceSet) ->
     loop {
         let next = places::intersection(seen, waiting);
         let found = places::lowest(next);
-        let Found::At(p) = found else {
+        let Some(p) = found else {
             return seen;
         };
         let row = standings::row_in(rows, all, p);
@@ -53,7 +53,7 @@ pub fn reached_until(
         }
         let next = places::intersection(held, untaken);
         let found = places::lowest(next);
-        let Found::At(p) = found else {
+        let Some(p) = found else {
             return Walked {
                 holds: false,
                 seen: held,

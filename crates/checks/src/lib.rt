@@ -11,7 +11,7 @@ ghost use Rattle.answers.specs.Views.{size, accepted_in};
 ghost use Rattle.answers.specs.Checks.{off_roster, Covered};
 
 use rows::Rows;
-use sets::{Found, Place, PlaceSet};
+use sets::{Place, PlaceSet};
 
 // The lent row of a place, as it is in the history of every roster that has the place.
 fn lent_row(history: &[u8], p: usize) -> PlaceSet
@@ -60,17 +60,12 @@ fn all_recorded(history: &[u8], rows: &Rows, returned: PlaceSet, n: usize) -> bo
     requires { n ≤ 128 }
     ensures { result ≡ all n (λ p. not (has returned p) || same n (history_in n history.now p) (rows_of rows.now p)) }
 {
-    let mut left = places::intersection(returned, places::below(n));
-    loop {
-        let found = places::lowest(left);
-        let Found::At(p) = found else {
-            return true;
-        };
+    for p in places::members(places::intersection(returned, places::below(n))) {
         if !row_recorded(history, rows, n, p.0) {
             return false;
         }
-        left = places::without(left, p);
     }
+    true
 }
 
 // The members of a row that have their turn with it: all, where the row is of a member of `due`, else none.
@@ -93,9 +88,10 @@ fn row_closed(history: &[u8], due: PlaceSet, n: usize, p: usize) -> bool
     let roster = places::below(n);
     let row = lent_row(history, p);
     let mut left = places::intersection(row, roster);
+    // no `for`: with each member its spared ones leave too
     loop {
         let found = places::lowest(left);
-        let Found::At(m) = found else {
+        let Some(m) = found else {
             return true;
         };
         let inner = places::intersection(lent_row(history, m.0), roster);
@@ -112,17 +108,12 @@ fn duty_met(history: &[u8], due: PlaceSet, n: usize) -> bool
     requires { (n ≤ 128) × (all n (λ p. not (reach n (history_in n history.now) p p)) ≡ true) }
     ensures { result ≡ all n (λ p. not (has due p) || subset n (reach n (history_in n history.now) p) (history_in n history.now p)) }
 {
-    let mut left = places::intersection(due, places::below(n));
-    loop {
-        let found = places::lowest(left);
-        let Found::At(p) = found else {
-            return true;
-        };
+    for p in places::members(places::intersection(due, places::below(n))) {
         if !row_closed(history, due, n, p.0) {
             return false;
         }
-        left = places::without(left, p);
     }
+    true
 }
 
 // Whether two sets have a member in common.
@@ -159,7 +150,7 @@ fn no_circle(history: &[u8], n: usize) -> bool
     let mut left = places::below(n);
     loop {
         let found = places::lowest(ahead(history, left, &path, depth));
-        let Found::At(p) = found else {
+        let Some(p) = found else {
             if depth == 0 {
                 return true;
             }

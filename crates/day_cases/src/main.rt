@@ -10,10 +10,7 @@
 //     tell                  what the recovery then answers of each place: l last, n not, o open
 #![tactic(auto)]
 
-ghost use Rattle.std.specs.Prelude.{◌≤◌};
-
 use days::{Day, Event, Played};
-use layouts::Writing;
 use recovery::Recovery;
 use scripts::List;
 use sets::Place;
@@ -73,7 +70,7 @@ fn open(to: Stdout, s: Stage, words: &[u8]) -> io::Result<Stage> {
     let got = days::open(kind, parts::of_script(&list, n));
     let opening = got.answer;
     let day = got.day;
-    answer(to, outcomes::beginning(opening))?;
+    answer(to, outcomes::opening(opening))?;
     let group = recovery::open(parts::of_script(&list, n));
     let recovery = group.recovery;
     Ok(Stage {
@@ -87,11 +84,13 @@ fn open(to: Stdout, s: Stage, words: &[u8]) -> io::Result<Stage> {
 fn told(to: Stdout, got: Played) -> io::Result<()> {
     say::text(to, b" -> played ")?;
     say::number(to, got.count as u64)?;
-    if got.refusal != 0 {
-        say::text(to, b", refused ")?;
-        return say::number(to, got.refusal as u64);
+    match got.answer {
+        Ok(()) => Ok(()),
+        Err(refusal) => {
+            say::text(to, b", refused ")?;
+            say::number(to, refusal as u64)
+        }
     }
-    Ok(())
 }
 
 // Event number k of a line: a stop of each of its places, or a hearing of each place behind the first.
@@ -117,14 +116,11 @@ fn events(to: Stdout, s: Stage, kind: u8, said: List, from: usize) -> io::Result
     let old = s.day;
     let mut p = Played {
         count: 0,
-        refusal: 0,
+        answer: Ok(()),
         day: old,
     };
-    for k in 0usize..300 {
-        if from <= k && k < said.count {
-            let next = days::step(p, event(kind, said, k));
-            p = next;
-        }
+    for k in from..said.count {
+        p = days::step(p, event(kind, said, k));
     }
     told(to, p)?;
     let day = p.day;
@@ -140,9 +136,9 @@ fn happen(to: Stdout, s: Stage, said: List) -> io::Result<Stage> {
         other: Place(scripts::number(said, 2) as usize),
     };
     let got = days::happen(old, e);
-    let refusal = got.refusal;
+    let met = got.answer;
     let day = got.day;
-    answer(to, refusal as u64)?;
+    answer(to, outcomes::happening(met))?;
     Ok(with(s, day))
 }
 
@@ -161,20 +157,12 @@ fn write(to: Stdout, s: Stage, said: List) -> io::Result<()> {
     scripts::say_runs(to, &out)
 }
 
-// Where a written record ends.
-fn end_of(got: Writing) -> usize {
-    match got {
-        Writing::Next(end) => end,
-        Writing::Refused(_) => 0,
-    }
-}
-
-// The record of one place, as the day writes it, offered.
+// The record of one place, as the day writes it, offered; no bytes where it writes none.
 fn bring_one(to: Stdout, s: Stage, place: usize) -> io::Result<Stage> {
     let day = s.day;
     let old = s.recovery;
     let mut out = [0u8; 1100];
-    let end = end_of(days::write(day, Place(place), &mut out, 0));
+    let end = days::write(day, Place(place), &mut out, 0).unwrap_or(0);
     let got = recovery::offer(old, parts::of_record(&out, end));
     let reply = got.answer;
     let recovery = got.recovery;
@@ -188,12 +176,8 @@ fn bring_one(to: Stdout, s: Stage, place: usize) -> io::Result<Stage> {
 fn bring(to: Stdout, start: Stage, said: List) -> io::Result<Stage> {
     let mut s = start;
     say::text(to, b" ->")?;
-    for k in 0usize..300 {
-        if said.count <= k {
-            return Ok(s);
-        }
-        let next = bring_one(to, s, scripts::number(said, k) as usize)?;
-        s = next;
+    for x in said.of.iter().take(said.count) {
+        s = bring_one(to, s, *x as usize)?;
     }
     Ok(s)
 }
@@ -201,10 +185,8 @@ fn bring(to: Stdout, start: Stage, said: List) -> io::Result<Stage> {
 // The answer for each place of the recovery.
 fn tell(to: Stdout, r: Recovery) -> io::Result<()> {
     say::text(to, b" -> ")?;
-    let mut p = 0;
-    while p < r.count {
+    for p in 0..r.count {
         outcomes::say_letter(to, outcomes::asked(recovery::ask(r, Place(p))))?;
-        p += 1;
     }
     Ok(())
 }

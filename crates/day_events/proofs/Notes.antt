@@ -141,9 +141,6 @@ module _ (S : Places) (q : ℕ) where
       ∙ noting_more q H (difference (only i) S) (difference (below i) S) (difference (below (i + 1)) S) (λ x.
       either_and (eqb x i) (ltb x i) (not (S x)) ∙ ap (λ (t : Bool). t && not (S x)) (below_next x i))
 
-  pub running_end : (i n : ℕ) (H : History) (v : List ℕ) → i ≤ n → n ≤ i → v ≡ table_of (noting (difference (below i) S) q H) → v ≡ table_of (noting (difference (below n) S) q H)
-  running_end i n H v a b e = let z : i ≡ n = omega arith in rw z at e
-
 -- ---- those who listen
 
 -- who has stopped is seen as far as the roster goes

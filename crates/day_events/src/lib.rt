@@ -14,43 +14,44 @@ ghost use Rattle.executions.specs.Promises.{day_after, happened};
 
 use executions::{Day, Event, Happened};
 use histories::Kind;
+use refusals::Refusal;
 use rows::Rows;
 use sets::{Place, PlaceSet};
 
-// The refusal that a stop meets, or 0: 12 off the roster, 14 where the place runs no more.
-fn stop_fault(n: usize, stopped: PlaceSet, place: Place) -> u8
+// Whether a stop is allowed: 12 off the roster, 14 where the place runs no more.
+fn stop_fault(n: usize, stopped: PlaceSet, place: Place) -> Result<(), Refusal>
     ensures { result ≡ stop_fault n (stops_of n (has stopped)) place.0 }
 {
     if n <= place.0 {
-        return 12;
+        return Err(Refusal::OffRoster);
     }
     if places::contains(stopped, place) {
-        return 14;
+        return Err(Refusal::NotAllowed);
     }
-    0
+    Ok(())
 }
 
-// The refusal that a hearing meets, or 0: 12 where either place is off the roster, 14 unless the one runs and the other does not.
-fn hear_fault(n: usize, stopped: PlaceSet, place: Place, other: Place) -> u8
+// Whether a hearing is allowed: 12 where either place is off the roster, 14 unless the one runs and the other does not.
+fn hear_fault(n: usize, stopped: PlaceSet, place: Place, other: Place) -> Result<(), Refusal>
     ensures { result ≡ hear_fault n (stops_of n (has stopped)) place.0 other.0 }
 {
     if n <= place.0 {
-        return 12;
+        return Err(Refusal::OffRoster);
     }
     if n <= other.0 {
-        return 12;
+        return Err(Refusal::OffRoster);
     }
     if places::contains(stopped, place) {
-        return 14;
+        return Err(Refusal::NotAllowed);
     }
     if places::contains(stopped, other) {
-        return 0;
+        return Ok(());
     }
-    14
+    Err(Refusal::NotAllowed)
 }
 
-// The refusal that an event meets, or 0.
-fn fault(n: usize, stopped: PlaceSet, e: Event) -> u8
+// Whether an event is allowed, or the refusal that it meets.
+fn fault(n: usize, stopped: PlaceSet, e: Event) -> Result<(), Refusal>
     ensures { result ≡ executions.fault n (stops_of n (has stopped)) e }
 {
     let kind = e.kind;
@@ -59,7 +60,7 @@ fn fault(n: usize, stopped: PlaceSet, e: Event) -> u8
     match kind {
         1 => stop_fault(n, stopped, place),
         2 => hear_fault(n, stopped, place, other),
-        0 | 3..=255 => 14,
+        0 | 3..=255 => Err(Refusal::NotAllowed),
     }
 }
 
@@ -98,10 +99,8 @@ fn note_running(rows: &mut Rows, n: usize, stopped: PlaceSet, other: Place)
     requires { table_of (rows_of rows.old) ≡ rows.old }
     ensures { rows.new ≡ table_of (noting (sets.difference (sets.below n) (has stopped)) other.0 (rows_of rows.old)) }
 {
-    let mut i = 0;
-    while i < n {
+    for i in 0..n {
         note_unless(rows, stopped, Place(i), other);
-        i += 1;
     }
 }
 
@@ -144,10 +143,14 @@ pub fn happen(d: Day, e: Event) -> Happened
 {
     let stopped = d.stopped;
     let n = standings::size(d.count);
-    let refusal = fault(n, stopped, e);
-    if refusal != 0 {
-        return Happened { refusal, day: d };
+    match fault(n, stopped, e) {
+        Ok(()) => Happened {
+            answer: Ok(()),
+            day: day_after(d, e),
+        },
+        Err(refusal) => Happened {
+            answer: Err(refusal),
+            day: d,
+        },
     }
-    let day = day_after(d, e);
-    Happened { refusal: 0, day }
 }

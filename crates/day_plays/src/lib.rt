@@ -3,37 +3,23 @@
 
 ghost use Rattle.std.specs.Prelude.{◌≡◌};
 ghost use Rattle.executions.specs.Promises as contracts;
-ghost use Rattle.executions.specs.Promises.{one_more, stepped, played};
+ghost use Rattle.executions.specs.Promises.{stepped, played};
 
 use executions::{Day, Event, Happened, Played};
 
-// One more played: the largest number there is stays.
-fn one_more(n: usize) -> usize
-    ensures { result ≡ one_more n }
-{
-    if n < 0xffff_ffff_ffff_ffff {
-        return n + 1;
-    }
-    n
-}
-
-// What is played after n events and one more.
+// What is played after n events and one more: the largest number there is stays.
 fn counted(n: usize, h: Happened) -> Played
     ensures { result ≡ contracts.counted n h }
 {
-    let refusal = h.refusal;
-    let day = h.day;
-    if refusal != 0 {
-        return Played {
-            count: n,
-            refusal,
-            day,
-        };
-    }
+    let count = if h.answer.is_ok() {
+        n.saturating_add(1)
+    } else {
+        n
+    };
     Played {
-        count: one_more(n),
-        refusal: 0,
-        day,
+        count,
+        answer: h.answer,
+        day: h.day,
     }
 }
 
@@ -41,7 +27,7 @@ fn counted(n: usize, h: Happened) -> Played
 pub fn step(p: Played, e: Event) -> Played
     ensures { result ≡ stepped p e }
 {
-    if p.refusal != 0 {
+    if p.answer.is_err() {
         return p;
     }
     let day = p.day;
@@ -55,13 +41,11 @@ pub fn play(d: Day, events: &[Event]) -> Played
 {
     let mut p = Played {
         count: 0,
-        refusal: 0,
+        answer: Ok(()),
         day: d,
     };
-    let mut at = 0;
-    while at < events.len() {
-        p = step(p, events[at]);
-        at += 1;
+    for e in events {
+        p = step(p, *e);
     }
     p
 }

@@ -1,4 +1,7 @@
 -- What writing a record of a day gives, one law for each way in which the code returns. Assumes nothing.
+use Rattle.refusals.specs.declared.Refusal.{Refusal}
+use Rattle.refusals.specs.declared.Refusal.TheVariants as R
+use Rattle.std.specs.Prelude.{Result, Err}
 use mathlib.Core.Path.{◌≡◌, refl, ap, ◌∙◌}
 use mathlib.Core.Bool.{true, false}
 use mathlib.Core.List.{List}
@@ -11,8 +14,6 @@ use Rattle.sets.specs.declared.PlaceSet.{PlaceSet}
 use Rattle.rows.specs.Rows.{row_at, rows_of}
 use Rattle.rows.proofs.Laws.{has_row}
 use Rattle.layouts.specs.Records.{Written, unwritten, written}
-use Rattle.layouts.specs.declared.Writing.{Writing}
-use Rattle.layouts.specs.declared.Writing.TheVariants as W
 use Rattle.answers.specs.Views.{size}
 use Rattle.answers.proofs.Views.{roster_is_lem}
 use Rattle.executions.specs.declared.Day.{Day}
@@ -25,15 +26,15 @@ heard_is w count p all row s a r e =
     e ∙ ap (λ (S : Places). intersection S (has row)) (a ∙ roster_is_lem count) ∙ ap (intersection (below (size count))) (ap has r ∙ has_row w p)
 
 -- an answer and a buffer that are those of a call
-abbrev Writes : Day → ℕ → List ℕ → ℕ → Writing → List ℕ → Type 0
+abbrev Writes : Day → ℕ → List ℕ → ℕ → Result ℕ Refusal → List ℕ → Type 0
 Writes d p out at a b = (a ≡ (written_of d p out at).answer) × (b ≡ (written_of d p out at).buffer)
 
 module _ (d : Day) (p : ℕ) (out : List ℕ) (at n : ℕ) (is : n ≡ size d.count) where
-  pub write_off : n ≤ p → Writes d p out at (W.Refused 12) out
+  pub write_off : n ≤ p → Writes d p out at (Err R.OffRoster) out
   unfolding written_of unwritten size_of
   write_off h = rw (← is, le-ltb p n h) (refl, refl)
 
-  pub write_runs : p < n → has d.stopped p ≡ false → Writes d p out at (W.Refused 14) out
+  pub write_runs : p < n → has d.stopped p ≡ false → Writes d p out at (Err R.NotAllowed) out
   unfolding written_of unwritten size_of execution_of
   write_runs h r = rw (← is, lt-ltb p n h, r) (refl, refl)
 
@@ -43,7 +44,7 @@ module _ (d : Day) (p : ℕ) (out : List ℕ) (at n : ℕ) (is : n ≡ size d.co
     unfolding written written_of record_of roster_of size_of execution_of
     as_written M m = rw (m, long, lt-ltb p n h, le-leb n 128 few, ← is, lt-ltb p n h, s)
 
-    pub write_done : (M : Places) (a : Writing) (b : List ℕ) → M ≡ intersection (below (size d.count)) (rows_of d.rows p)
+    pub write_done : (M : Places) (a : Result ℕ Refusal) (b : List ℕ) → M ≡ intersection (below (size d.count)) (rows_of d.rows p)
         → (a ≡ (written d.kind p (take n d.serials) M out at).answer) × (b ≡ (written d.kind p (take n d.serials) M out at).buffer) → Writes d p out at a b
     unfolding execution_of size_of
     write_done M a b m (e, f) = (e ∙ ap (λ (r : Written). r.answer) (as_written M m), f ∙ ap (λ (r : Written). r.buffer) (as_written M m))

@@ -10,11 +10,10 @@ ghost use Rattle.answers.specs.Views.{size};
 ghost use Rattle.executions.specs.Promises as contracts;
 ghost use Rattle.executions.specs.Promises.{begun, begun_as, written_of};
 
-use executions::{Begun, Day, Opening};
+use executions::{Begun, Day};
 use histories::Kind;
-use layouts::Writing;
+use refusals::Refusal;
 use rows::Rows;
-use serials::Listed;
 use sets::{Place, PlaceSet};
 
 // A day with this roster, and all run.
@@ -35,12 +34,12 @@ fn starting(kind: Kind, list: &[u32]) -> Day
 }
 
 // A refused opening: a day of no places.
-fn unbegun(fault: u8) -> Begun
+fn unbegun(fault: Refusal) -> Begun
     ensures { result ≡ contracts.unbegun fault }
 {
     let day = starting(Kind::Full, &[]);
     Begun {
-        answer: Opening::Refused(fault),
+        answer: Err(fault),
         day,
     }
 }
@@ -49,16 +48,15 @@ fn unbegun(fault: u8) -> Begun
 fn open_as(kind: Kind, list: &[u32]) -> Begun
     ensures { result ≡ begun_as kind list.now (listed list.now) }
 {
-    let found = rosters::check(list);
-    match found {
-        Listed::Sound => {
+    match rosters::check(list) {
+        Ok(()) => {
             let day = starting(kind, list);
             Begun {
-                answer: Opening::Opened,
+                answer: Ok(()),
                 day,
             }
         }
-        Listed::Refused(fault) => unbegun(fault),
+        Err(fault) => unbegun(fault),
     }
 }
 
@@ -69,7 +67,7 @@ pub fn open(kind: u8, list: &[u32]) -> Begun
     match kind {
         1 => open_as(Kind::Full, list),
         2 => open_as(Kind::Short, list),
-        0 | 3..=255 => unbegun(2),
+        0 | 3..=255 => unbegun(Refusal::UnknownKind),
     }
 }
 
@@ -83,7 +81,7 @@ fn heard(rows: &Rows, count: usize, place: Place) -> PlaceSet
 }
 
 // Writes the record of a place into the buffer from a position on: 12, 14 while it runs, 13, or where the record ends.
-pub fn write(d: Day, place: Place, out: &mut [u8], at: usize) -> Writing
+pub fn write(d: Day, place: Place, out: &mut [u8], at: usize) -> Result<usize, Refusal>
     ensures value { result ≡ (written_of d place.0 out.old at).answer }
     ensures out_after { out.new ≡ (written_of d place.0 out.old at).buffer }
 {
@@ -92,10 +90,10 @@ pub fn write(d: Day, place: Place, out: &mut [u8], at: usize) -> Writing
     let count = d.count;
     let n = standings::size(count);
     if n <= place.0 {
-        return Writing::Refused(12);
+        return Err(Refusal::OffRoster);
     }
     if !places::contains(stopped, place) {
-        return Writing::Refused(14);
+        return Err(Refusal::NotAllowed);
     }
     let mourned = heard(&d.rows, count, place);
     let serials = d.serials;

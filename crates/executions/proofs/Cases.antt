@@ -1,9 +1,11 @@
 -- Two small days and each refusal, computed: the definitions of an event, held to their values. Assumes nothing.
 use mathlib.Core.Path.{◌≡◌, refl}
 use mathlib.Core.Bool.{cond}
+use Rattle.std.specs.Prelude.{Result, Ok, Err, is_ok}
+use Rattle.refusals.specs.declared.Refusal.{Refusal}
+use Rattle.refusals.specs.Numbers.{number}
 use mathlib.Core.List.{List, [], ◌∷◌}
 use Prim.Native.Nat.{ℕ, zero, suc}
-use lib.Dec.{eqb}
 use Rattle.sets.specs.Sets.{Places}
 use Rattle.histories.specs.declared.Kind.{Kind}
 use Rattle.histories.specs.declared.Kind.TheVariants.{Full, Short}
@@ -21,15 +23,24 @@ stop p = event 1 p 900
 abbrev hear : ℕ → ℕ → Event
 hear p q = event 2 p q
 
--- the refusal of each event in turn, or 0; a refused one is passed over
+-- the number of a refusal, or 0
+numbered : Result (Unit {0}) Refusal → ℕ
+numbered (Ok u) = 0
+numbered (Err j) = number j
+
+-- the execution behind an event, which a refused one leaves as it was
+behind : Kind → ℕ → Execution → Event → Execution
+behind k n D e = cond (is_ok (fault n D e)) (happening k n D e) D
+
+-- the number of each event's refusal in turn; a refused one is passed over
 refusals : Kind → ℕ → Execution → List Event → List ℕ
 refusals k n D [] = []
-refusals k n D (e ∷ es) = fault n D e ∷ refusals k n (cond (eqb (fault n D e) 0) (happening k n D e) D) es
+refusals k n D (e ∷ es) = numbered (fault n D e) ∷ refusals k n (behind k n D e) es
 
 -- the execution after them
 after : Kind → ℕ → Execution → List Event → Execution
 after k n D [] = D
-after k n D (e ∷ es) = after k n (cond (eqb (fault n D e) 0) (happening k n D e) D) es
+after k n D (e ∷ es) = after k n (behind k n D e) es
 
 -- the members of a set below p + m, from p on
 members : ℕ → ℕ → Places → List ℕ
@@ -60,7 +71,7 @@ short_day : told Short 3 day ≡ record {
   stopped = 0 ∷ 1 ∷ 2 ∷ [];
   rows = [] ∷ (0 ∷ []) ∷ (1 ∷ []) ∷ [];
 }
-unfolding told refusals after members rows_from fault stop_fault hear_fault listeners noting happening
+unfolding told numbered behind refusals after members rows_from fault stop_fault hear_fault listeners noting happening
 short_day = refl
 
 -- in the full kind 2 noted it with 1
@@ -69,7 +80,7 @@ full_day : told Full 3 day ≡ record {
   stopped = 0 ∷ 1 ∷ 2 ∷ [];
   rows = [] ∷ (0 ∷ []) ∷ (0 ∷ 1 ∷ []) ∷ [];
 }
-unfolding told refusals after members rows_from fault stop_fault hear_fault listeners noting happening
+unfolding told numbered behind refusals after members rows_from fault stop_fault hear_fault listeners noting happening
 full_day = refl
 
 -- of five places 3 hears 0 and 4 hears 1 and 2: in the short kind each alone, in the full kind with all who run then
@@ -77,11 +88,11 @@ abbrev day_of_five : List Event
 day_of_five = stop 0 ∷ hear 3 0 ∷ stop 1 ∷ stop 2 ∷ hear 4 2 ∷ hear 4 1 ∷ stop 3 ∷ hear 4 3 ∷ stop 4 ∷ []
 
 short_five : (told Short 5 day_of_five).rows ≡ [] ∷ [] ∷ [] ∷ (0 ∷ []) ∷ (1 ∷ 2 ∷ 3 ∷ []) ∷ []
-unfolding told refusals after members rows_from fault stop_fault hear_fault listeners noting happening
+unfolding told numbered behind refusals after members rows_from fault stop_fault hear_fault listeners noting happening
 short_five = refl
 
 full_five : (told Full 5 day_of_five).rows ≡ [] ∷ (0 ∷ []) ∷ (0 ∷ []) ∷ (0 ∷ 1 ∷ 2 ∷ []) ∷ (0 ∷ 1 ∷ 2 ∷ 3 ∷ []) ∷ []
-unfolding told refusals after members rows_from fault stop_fault hear_fault listeners noting happening
+unfolding told numbered behind refusals after members rows_from fault stop_fault hear_fault listeners noting happening
 full_five = refl
 
 -- off the roster; hearing of one that runs, and of itself; a second stop, and hearing after it; kinds that no event has
@@ -90,5 +101,5 @@ refused_day : told Full 2 (stop 2 ∷ hear 2 0 ∷ hear 0 2 ∷ hear 0 1 ∷ hea
   stopped = 1 ∷ [];
   rows = (1 ∷ []) ∷ [] ∷ [];
 }
-unfolding told refusals after members rows_from fault stop_fault hear_fault listeners noting happening
+unfolding told numbered behind refusals after members rows_from fault stop_fault hear_fault listeners noting happening
 refused_day = refl

@@ -1,4 +1,5 @@
 -- What a day stands for: nobody has stopped when it is opened, and each allowed event does to it what it does to its execution. Assumes nothing.
+use Rattle.std.specs.Prelude.{Ok}
 use mathlib.Core.Path.{◌≡◌, refl, sym, ap, ◌∙◌}
 use mathlib.Core.Bool.{Bool, true, false, cond, ◌&&◌, ◌||◌, and-false, and-true}
 use mathlib.Core.Logic.{◌⊎◌, inl, inr}
@@ -232,7 +233,7 @@ module _ (d : Day) (e : Event) where
   unfolding roster_of
   after_roster = rw (after_size, after_serials)
 
-module _ {k : Kind} {roster : List ℕ} {d : Day} (g : Sound k roster d) (e : Event) (free : fault (size_of d) (execution_of d) e ≡ 0) where
+module _ {k : Kind} {roster : List ℕ} {d : Day} (g : Sound k roster d) (e : Event) (free : fault (size_of d) (execution_of d) e ≡ Ok tt) where
   -- the execution of the day after it is the execution after it
   pub after_execution : execution_of (day_after d e) ≡ happening d.kind (size_of d) (execution_of d) e
   after_execution = go (allowed (size_of d) (execution_of d) e free)

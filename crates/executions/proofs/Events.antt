@@ -1,6 +1,9 @@
 -- What a day holds after a list of events is what happened in those that were played. Assumes nothing.
+use Rattle.refusals.specs.declared.Refusal.{Refusal}
+use Rattle.refusals.specs.declared.Refusal.TheVariants as R
+use Rattle.std.specs.Prelude.{Ok, Err}
 use mathlib.Core.Path.{◌≡◌, refl, sym, ap, ◌∙◌, subst}
-use mathlib.Core.Bool.{Bool, true, false, cond, not, ◌&&◌}
+use mathlib.Core.Bool.{true, false, cond, not, ◌&&◌}
 use mathlib.Core.Logic.{◌⊎◌, inl, inr, ◌↔◌}
 use mathlib.Core.List.{List, [], ◌∷◌, ◌++◌, append-nil, append_assoc}
 use Prim.Native.Nat.{ℕ, ◌^◌, ◌<◌, ◌≤◌}
@@ -84,10 +87,10 @@ module _ (ps : List Event) (e : Event) where
       go (inl (a, b)) = inr (h.hearer, (subst (λ (f : Event). IsHear f h.hearer q) b h.hear, subst (λ (l : List Event). Notes k n l h.hearer x) a h.notes))
       go (inr (l, a)) = inl (record { before = h.before; event = h.event; later = l; among = a; hearer = h.hearer; hear = h.hear; notes = h.notes })
 
-  pub allowed_more : {n : ℕ} → AllAllowed n ps → Meets n ps e 0 → AllAllowed n (ps ++ (e ∷ []))
+  pub allowed_more : {n : ℕ} → AllAllowed n ps → Meets n ps e (Ok tt) → AllAllowed n (ps ++ (e ∷ []))
   allowed_more {n} all m before f later a = go (snoc_cases ps before e f later a)
     where
-      go : ((before ≡ ps) × (f ≡ e)) ⊎ ((l : List Event) × (ps ≡ before ++ (f ∷ l))) → Meets n before f 0
+      go : ((before ≡ ps) × (f ≡ e)) ⊎ ((l : List Event) × (ps ≡ before ++ (f ∷ l))) → Meets n before f (Ok tt)
       go (inl (b, c)) = rw (b, c) m
       go (inr (l, b)) = all before f l b
 
@@ -122,7 +125,7 @@ module _ {k : Kind} {n : ℕ} {ps : List Event} {D : Execution} (t : Tells k n p
     abbrev qs : List Event
     qs = ps ++ (e ∷ [])
 
-    meets_0 : Allowed n D e → Meets n ps e 0
+    meets_0 : Allowed n D e → Meets n ps e (Ok tt)
     meets_0 (stops a p r) = stop_allowed a p (runs e.place.0 r)
     meets_0 (hears a p q r s) = hear_allowed a p q (runs e.place.0 r) ((t.stopped e.other.0).0 s)
 
@@ -167,7 +170,7 @@ module _ {k : Kind} {n : ℕ} {ps : List Event} {D : Execution} (t : Tells k n p
         to x q (inl h) = noting_old who e.other.0 D.row x q ((t.heard x q).1 h)
         to x q (inr (p, ((_, b, c), w))) = noting_new who e.other.0 D.row x q ((listens k e.place.0 x).1 (subst (λ (y : ℕ). Notes k n ps y x) (sym b) w)) (sym c)
 
-    pub tells_next : fault n D e ≡ 0 → Tells k n qs (happening k n D e)
+    pub tells_next : fault n D e ≡ Ok tt → Tells k n qs (happening k n D e)
     tells_next f = go (allowed n D e f)
       where
         go : Allowed n D e → Tells k n qs (happening k n D e)
@@ -187,7 +190,7 @@ module _ {k : Kind} {n : ℕ} {ps : List Event} {D : Execution} (t : Tells k n p
   unfolding stop_fault
   meets_stop a = go (split (ltb p n)) (split (D.stopped p))
     where
-      go : (ltb p n ≡ true) ⊎ (ltb p n ≡ false) → (D.stopped p ≡ true) ⊎ (D.stopped p ≡ false) → Meets n ps e (cond (ltb p n) (cond (D.stopped p) 14 0) 12)
+      go : (ltb p n ≡ true) ⊎ (ltb p n ≡ false) → (D.stopped p ≡ true) ⊎ (D.stopped p ≡ false) → Meets n ps e (cond (ltb p n) (cond (D.stopped p) (Err R.NotAllowed) (Ok tt)) (Err R.OffRoster))
       go (inl l) (inl s) = rw (l, s) (stop_again a (ltb-true p n l) ((t.stopped p).0 s))
       go (inl l) (inr r) = rw (l, r) (stop_allowed a (ltb-true p n l) (runs t p r))
       go (inr l) s = rw l (stop_off a (ltb-false p n l))
@@ -197,7 +200,7 @@ module _ {k : Kind} {n : ℕ} {ps : List Event} {D : Execution} (t : Tells k n p
   meets_hear a = go (split (ltb p n)) (split (ltb q n)) (split (D.stopped p)) (split (D.stopped q))
     where
       go : (ltb p n ≡ true) ⊎ (ltb p n ≡ false) → (ltb q n ≡ true) ⊎ (ltb q n ≡ false) → (D.stopped p ≡ true) ⊎ (D.stopped p ≡ false)
-          → (D.stopped q ≡ true) ⊎ (D.stopped q ≡ false) → Meets n ps e (cond (ltb p n && ltb q n) (cond (not (D.stopped p) && D.stopped q) 0 14) 12)
+          → (D.stopped q ≡ true) ⊎ (D.stopped q ≡ false) → Meets n ps e (cond (ltb p n && ltb q n) (cond (not (D.stopped p) && D.stopped q) (Ok tt) (Err R.NotAllowed)) (Err R.OffRoster))
       go (inl l) (inl m) (inl s) y = rw (l, m, s) (hear_late a (ltb-true p n l) (ltb-true q n m) ((t.stopped p).0 s))
       go (inl l) (inl m) (inr r) (inl s) = rw (l, m, r, s) (hear_allowed a (ltb-true p n l) (ltb-true q n m) (runs t p r) ((t.stopped q).0 s))
       go (inl l) (inl m) (inr r) (inr s) = rw (l, m, r, s) (hear_early a (ltb-true p n l) (ltb-true q n m) (runs t q s))
@@ -209,7 +212,7 @@ module _ {k : Kind} {n : ℕ} {ps : List Event} {D : Execution} (t : Tells k n p
   meets = go (split (eqb e.kind 1)) (split (eqb e.kind 2))
     where
       go : (eqb e.kind 1 ≡ true) ⊎ (eqb e.kind 1 ≡ false) → (eqb e.kind 2 ≡ true) ⊎ (eqb e.kind 2 ≡ false)
-          → Meets n ps e (cond (eqb e.kind 1) (stop_fault n D p) (cond (eqb e.kind 2) (hear_fault n D p q) 14))
+          → Meets n ps e (cond (eqb e.kind 1) (stop_fault n D p) (cond (eqb e.kind 2) (hear_fault n D p q) (Err R.NotAllowed)))
       go (inl a) b = rw a (meets_stop (eqb-true e.kind 1 a))
       go (inr a) (inl b) = rw (a, b) (meets_hear (eqb-true e.kind 2 b))
       go (inr a) (inr b) = rw (a, b) (no_event (eqb-false e.kind 1 a) (eqb-false e.kind 2 b))
@@ -252,12 +255,16 @@ module _ (k : Kind) (s : List ℕ) (few : length s ≤ 128) (es : List Event) (h
       kept : Kept k s play.day
       kept = played_kept (kept_starting k s few) es
 
-      ending : ((w.rest ≡ []) × (play.refusal ≡ 0)) ⊎ plays.Refuses play w.rest → ((w.rest ≡ []) × (play.refusal ≡ 0)) ⊎ Refuses (length s) w.front w.rest play.refusal
+      ending : ((w.rest ≡ []) × (play.answer ≡ Ok tt)) ⊎ plays.Refuses play w.rest
+          → ((w.rest ≡ []) × (play.answer ≡ Ok tt)) ⊎ ((j : Refusal) × (play.answer ≡ Err j) × Refuses (length s) w.front w.rest j)
       ending (inl e) = inl e
-      ending (inr r) = inr (record {
-        event = r.event;
-        later = r.later;
-        first = r.first;
-        meets = subst (Meets (length s) w.front r.event) (fault_on_lem kept r.event ∙ r.refused) (meets t r.event);
-        refused = r.some;
-      })
+      ending (inr r) = inr (
+        r.some.0,
+        r.some.1,
+        record {
+          event = r.event;
+          later = r.later;
+          first = r.first;
+          meets = subst (Meets (length s) w.front r.event) (fault_on_lem kept r.event ∙ r.refused ∙ r.some.1) (meets t r.event);
+        },
+      )

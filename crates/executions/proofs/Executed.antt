@@ -1,4 +1,7 @@
 -- What holds of an execution after any allowed events, and that its rows are then a history. Assumes nothing.
+use Rattle.refusals.specs.declared.Refusal.{Refusal}
+use Rattle.refusals.specs.declared.Refusal.TheVariants as R
+use Rattle.std.specs.Prelude.{Result, Ok, Err}
 use mathlib.Core.Path.{◌≡◌, refl, ◌∙◌, subst}
 use mathlib.Core.Bool.{Bool, true, false, not, cond, ◌&&◌}
 use mathlib.Core.Logic.{◌⊎◌, inl, inr}
@@ -31,40 +34,40 @@ pub data Allowed (n : ℕ) (D : Execution) (e : Event) : Type 0 where
   hears : e.kind ≡ 2 → e.place.0 < n → e.other.0 < n → D.stopped e.place.0 ≡ false → D.stopped e.other.0 ≡ true → Allowed n D e
 
 module _ (n : ℕ) (D : Execution) where
-  stop_allowed : (p : ℕ) → stop_fault n D p ≡ 0 → (p < n) × (D.stopped p ≡ false)
+  stop_allowed : (p : ℕ) → stop_fault n D p ≡ Ok tt → (p < n) × (D.stopped p ≡ false)
   unfolding stop_fault
   stop_allowed p f = go (ltb p n) refl (D.stopped p) refl f
     where
-      go : (a : Bool) → ltb p n ≡ a → (b : Bool) → D.stopped p ≡ b → ◌≡◌ {A = ℕ} (cond a (cond b 14 0) 12) 0 → (p < n) × (D.stopped p ≡ false)
-      go true ha true hb z = absurd (omega arith)
+      go : (a : Bool) → ltb p n ≡ a → (b : Bool) → D.stopped p ≡ b → cond {A = Result (Unit {0}) Refusal} a (cond b (Err R.NotAllowed) (Ok tt)) (Err R.OffRoster) ≡ Ok tt → (p < n) × (D.stopped p ≡ false)
+      go true ha true hb z = cc
       go true ha false hb z = (ltb-true p n ha, hb)
-      go false ha b hb z = absurd (omega arith)
+      go false ha b hb z = cc
 
-  hear_allowed : (p q : ℕ) → hear_fault n D p q ≡ 0 → ((p < n) × (q < n)) × ((D.stopped p ≡ false) × (D.stopped q ≡ true))
+  hear_allowed : (p q : ℕ) → hear_fault n D p q ≡ Ok tt → ((p < n) × (q < n)) × ((D.stopped p ≡ false) × (D.stopped q ≡ true))
   unfolding hear_fault
   hear_allowed p q f = go (ltb p n && ltb q n) refl (not (D.stopped p) && D.stopped q) refl f
     where
-      go : (a : Bool) → ltb p n && ltb q n ≡ a → (b : Bool) → not (D.stopped p) && D.stopped q ≡ b → ◌≡◌ {A = ℕ} (cond a (cond b 0 14) 12) 0
+      go : (a : Bool) → ltb p n && ltb q n ≡ a → (b : Bool) → not (D.stopped p) && D.stopped q ≡ b → cond {A = Result (Unit {0}) Refusal} a (cond b (Ok tt) (Err R.NotAllowed)) (Err R.OffRoster) ≡ Ok tt
           → ((p < n) × (q < n)) × ((D.stopped p ≡ false) × (D.stopped q ≡ true))
       go true ha true hb z = (
         (ltb-true p n (and_left (ltb p n) (ltb q n) ha), ltb-true q n (and_right (ltb p n) (ltb q n) ha)),
         (not_true (D.stopped p) (and_left (not (D.stopped p)) (D.stopped q) hb), and_right (not (D.stopped p)) (D.stopped q) hb),
       )
-      go true ha false hb z = absurd (omega arith)
-      go false ha b hb z = absurd (omega arith)
+      go true ha false hb z = cc
+      go false ha b hb z = cc
 
-  pub allowed : (e : Event) → fault n D e ≡ 0 → Allowed n D e
+  pub allowed : (e : Event) → fault n D e ≡ Ok tt → Allowed n D e
   unfolding fault
   allowed e f = go (eqb e.kind 1) refl (eqb e.kind 2) refl f
     where
       go : (a : Bool) → eqb e.kind 1 ≡ a → (b : Bool) → eqb e.kind 2 ≡ b
-          → cond a (stop_fault n D e.place.0) (cond b (hear_fault n D e.place.0 e.other.0) 14) ≡ 0 → Allowed n D e
+          → cond a (stop_fault n D e.place.0) (cond b (hear_fault n D e.place.0 e.other.0) (Err R.NotAllowed)) ≡ Ok tt → Allowed n D e
       go true ha b hb z = let w = stop_allowed e.place.0 z in stops (eqb-true e.kind 1 ha) w.0 w.1
       go false ha true hb z = let w = hear_allowed e.place.0 e.other.0 z in hears (eqb-true e.kind 2 hb) w.0.0 w.0.1 w.1.0 w.1.1
-      go false ha false hb z = absurd (omega arith)
+      go false ha false hb z = cc
 
   -- an event with such a reason is not refused
-  pub allowed_free : (e : Event) → Allowed n D e → fault n D e ≡ 0
+  pub allowed_free : (e : Event) → Allowed n D e → fault n D e ≡ Ok tt
   unfolding fault stop_fault hear_fault
   allowed_free e (stops k p r) = cond_true _ _ (eq-eqb e.kind 1 k) ∙ cond_true _ _ (lt-ltb e.place.0 n p) ∙ cond_false _ _ r
   allowed_free e (hears k p q r s) =
@@ -245,7 +248,7 @@ module _ {k : Kind} {n : ℕ} {D : Execution} (o : Orderly k n D) (p q : ℕ) (p
 
 -- ---- any event that is allowed
 
-pub orderly_next : {k : Kind} {n : ℕ} {D : Execution} → Orderly k n D → (e : Event) → fault n D e ≡ 0 → Orderly k n (happening k n D e)
+pub orderly_next : {k : Kind} {n : ℕ} {D : Execution} → Orderly k n D → (e : Event) → fault n D e ≡ Ok tt → Orderly k n (happening k n D e)
 orderly_next {k} {n} {D} o e f = go (allowed n D e f)
   where
     go : Allowed n D e → Orderly k n (happening k n D e)

@@ -1,4 +1,8 @@
 -- A day's records, offered in any order, are taken or repeated, and what is answered then is true of the day. Assumes nothing.
+use Rattle.refusals.specs.declared.Refusal.{Refusal}
+use Rattle.refusals.specs.declared.Refusal.TheVariants as R
+use Rattle.answers.specs.declared.Answer as declared
+use Rattle.std.specs.Prelude.{Result, Ok, Err}
 use mathlib.Core.Path.{◌≡◌, refl, sym, ap, ◌∙◌, subst}
 use mathlib.Core.Bool.{Bool, true, false, cond}
 use mathlib.Core.Logic.{◌⊎◌, inl, inr, ◌↔◌}
@@ -17,23 +21,15 @@ use Rattle.histories.specs.Histories.{History, none, Fits, Last}
 use Rattle.histories.specs.Earlier.{IsHistory}
 use Rattle.histories.proofs.Closure.{before_closed}
 use Rattle.serials.specs.Rosters.{IsRoster, listed}
-use Rattle.serials.specs.declared.Listed.{Listed}
-use Rattle.serials.specs.declared.Listed.TheVariants as L
 use Rattle.serials.proofs.Rosters.{listed_sound}
 use Rattle.serials.specs.Seconds.{counts_as}
-use Rattle.layouts.specs.declared.Writing.TheVariants as W
-use Rattle.layouts.specs.Layout.{refused, known_kind, kind_of, layout}
+use Rattle.layouts.specs.Layout.{known_kind, kind_of, layout}
 use Rattle.layouts.specs.Records.{put_at, written_at}
 use Rattle.layouts.proofs.Layouts.{IsStored}
 use Rattle.layouts.proofs.Trips.{layout_lone}
 use Rattle.calls.specs.declared.Recovery.{Recovery}
-use Rattle.calls.specs.declared.Opening as recovery
-use Rattle.calls.specs.declared.Opening.TheVariants as R
 use Rattle.calls.specs.declared.Opened.{Opened}
-use Rattle.answers.specs.declared.Reply.TheVariants as O
-use Rattle.calls.specs.declared.Asked.{Asked}
 use Rattle.calls.specs.Promises.{seconds_of, accepted_of, unopened, opened_as, opened}
-use Rattle.calls.specs.Demand as D
 use Rattle.calls.specs.Demand.{ask, says, OfGroup}
 use Rattle.calls.specs.Run.{opening_says, asked_says, outcome, left, reached}
 use Rattle.calls.proofs.Opens.{opens, opened_free}
@@ -46,8 +42,6 @@ use Rattle.executions.specs.declared.Day.{Day}
 use Rattle.executions.specs.declared.Event.{Event}
 use Rattle.executions.specs.declared.Played.{Played}
 use Rattle.executions.specs.declared.Begun.{Begun}
-use Rattle.executions.specs.declared.Opening.{Opening}
-use Rattle.executions.specs.declared.Opening.TheVariants as G
 use Rattle.executions.specs.Executions.{Execution}
 use Rattle.executions.specs.Promises.{size_of, execution_of, starting, unbegun, begun_as, begun, day_after, played, record_of, written_of}
 use Rattle.executions.specs.Finished.{Known, Free, Opens, unknown, otherwise, record_bytes, Over, records_of, True}
@@ -70,56 +64,41 @@ known_elim kind e = go (or_cases (eqb kind 1) (eqb kind 2) e)
     go (inl h) = inl (eqb-true kind 1 h)
     go (inr h) = inr (eqb-true kind 2 h)
 
-pub begun_as_lem : (kind : ℕ) (s : List ℕ) → Free kind s → begun kind s ≡ record { answer = G.Opened; day = starting (kind_of kind) s }
+pub begun_as_lem : (kind : ℕ) (s : List ℕ) → Free kind s → begun kind s ≡ record { answer = Ok tt; day = starting (kind_of kind) s }
 unfolding begun begun_as
 begun_as_lem kind s f = rw (known_intro kind f.known, (listed_sound s).1 f.list.sound)
 
-pub begun_free : (kind : ℕ) (s : List ℕ) → Free kind s → (begun kind s).answer ≡ G.Opened
+pub begun_free : (kind : ℕ) (s : List ℕ) → Free kind s → (begun kind s).answer ≡ Ok tt
 begun_free kind s f = ap (λ (b : Begun). b.answer) (begun_as_lem kind s f)
-
--- a day's answer in the words of a recovery
-pub alike : Opening → recovery.Opening
-alike G.Opened = R.Opened
-alike (G.Refused j) = R.Refused j
 
 module _ (kind : ℕ) (s : List ℕ) where
   -- a kind byte that is not known is refused, whatever the list
-  pub begun_unknown : ¬ (Known kind) → (begun kind s).answer ≡ G.Refused 2
+  pub begun_unknown : ¬ (Known kind) → (begun kind s).answer ≡ Err R.UnknownKind
   unfolding begun unbegun
-  begun_unknown z = ap (λ (b : Bool). (cond b (begun_as (kind_of kind) s (listed s)) (unbegun 2)).answer) (is_false (known_kind kind) (λ e. z (known_elim kind e)))
+  begun_unknown z = ap (λ (b : Bool). (cond b (begun_as (kind_of kind) s (listed s)) (unbegun R.UnknownKind)).answer) (is_false (known_kind kind) (λ e. z (known_elim kind e)))
 
   module _ (k : Known kind) where
     -- otherwise a day and a recovery are opened alike
-    pub begun_alike : alike (begun kind s).answer ≡ (opened s).answer
-    unfolding alike begun begun_as unbegun opened opened_as unopened
-    begun_alike = ap (λ (b : Bool). alike (cond b (begun_as (kind_of kind) s (listed s)) (unbegun 2)).answer) (known_intro kind k) ∙ go (listed s)
+    pub begun_alike : (begun kind s).answer ≡ (opened s).answer
+    unfolding begun begun_as unbegun opened opened_as unopened
+    begun_alike = ap (λ (b : Bool). (cond b (begun_as (kind_of kind) s (listed s)) (unbegun R.UnknownKind)).answer) (known_intro kind k) ∙ go (listed s)
       where
-        go : (l : Listed) → alike (begun_as (kind_of kind) s l).answer ≡ (opened_as s l).answer
-        go L.Sound = refl
-        go (L.Refused j) = refl
+        go : (l : Result (Unit {0}) Refusal) → (begun_as (kind_of kind) s l).answer ≡ (opened_as s l).answer
+        go (Ok u) = refl
+        go (Err j) = refl
 
     -- and refused alike, so by the same faults in the same order
-    pub begins : (j : ℕ) → ((begun kind s).answer ≡ G.Refused j) ↔ ((opened s).answer ≡ R.Refused j)
-    unfolding alike
-    begins j = (λ e. sym begun_alike ∙ ap alike e, λ e. back (begun kind s).answer (begun_alike ∙ e))
-      where
-        back : (a : Opening) → alike a ≡ R.Refused j → a ≡ G.Refused j
-        back G.Opened e = let z : ◌≡◌ {A = ℕ} 0 1 = cc in absurd (omega arith)
-        back (G.Refused i) e = let z : i ≡ j = cc in ap G.Refused z
+    pub begins : (j : Refusal) → ((begun kind s).answer ≡ Err j) ↔ ((opened s).answer ≡ Err j)
+    begins j = (λ e. sym begun_alike ∙ e, λ e. begun_alike ∙ e)
 
-    pub begins_opened : ((begun kind s).answer ≡ G.Opened) ↔ ((opened s).answer ≡ R.Opened)
-    unfolding alike
-    begins_opened = (λ e. sym begun_alike ∙ ap alike e, λ e. back (begun kind s).answer (begun_alike ∙ e))
-      where
-        back : (a : Opening) → alike a ≡ R.Opened → a ≡ G.Opened
-        back G.Opened e = refl
-        back (G.Refused i) e = let z : ◌≡◌ {A = ℕ} 0 1 = cc in absurd (omega arith)
+    pub begins_opened : ((begun kind s).answer ≡ Ok tt) ↔ ((opened s).answer ≡ Ok tt)
+    begins_opened = (λ e. sym begun_alike ∙ e, λ e. begun_alike ∙ e)
 
-  pub begins_as : Opens kind s (opening_says (alike (begun kind s).answer))
-  unfolding alike opening_says
+  pub begins_as : Opens kind s (opening_says (begun kind s).answer)
+  unfolding opening_says
   begins_as = go (split (known_kind kind))
     where
-      go : (known_kind kind ≡ true) ⊎ (known_kind kind ≡ false) → Opens kind s (opening_says (alike (begun kind s).answer))
+      go : (known_kind kind ≡ true) ⊎ (known_kind kind ≡ false) → Opens kind s (opening_says (begun kind s).answer)
       go (inl e) = rw (begun_alike (known_elim kind e)) (otherwise (known_elim kind e) (opens s))
       go (inr e) = let z : ¬ (Known kind) = λ k. clash (known_intro kind k) e in rw (begun_unknown z) (unknown z)
 
@@ -132,11 +111,11 @@ module _ {k : Kind} {s : List ℕ} {d : Day} (sound : IsRoster s) (below : (p : 
   abbrev rows : History
   rows = (execution_of d).row
 
-  is_history : IsHistory k (length s) rows
+  pub is_history : IsHistory k (length s) rows
   is_history = orderly_history g.orderly
 
   -- the record of a place is one that bytes can hold
-  record_stored : (p : ℕ) → p < length s → IsStored (record_of d p)
+  pub record_stored : (p : ℕ) → p < length s → IsStored (record_of d p)
   unfolding record_of
   record_stored p l = record {
     roster = rw g.sound.is_roster sound;
@@ -161,8 +140,8 @@ module _ {k : Kind} {s : List ℕ} {d : Day} (sound : IsRoster s) (below : (p : 
   answers_true : {r : Recovery} → Good s r → Fits (length s) (accepted_of r) rows → True d r
   unfolding outcome asked_says
   answers_true good f = record {
-    last = λ p e. ((last_iff good.fits (step good (ask p))).0 (ap (λ (a : Asked). says (asked_says a)) e)).1 rows f;
-    not_last = λ p e. heard_of p (((not_last_iff good.fits (step good (ask p))).0 (ap (λ (a : Asked). says (asked_says a)) e)).1 rows f);
+    last = λ p e. ((last_iff good.fits (step good (ask p))).0 (ap (λ (a : Result declared.Answer Refusal). says (asked_says a)) e)).1 rows f;
+    not_last = λ p e. heard_of p (((not_last_iff good.fits (step good (ask p))).0 (ap (λ (a : Result declared.Answer Refusal). says (asked_says a)) e)).1 rows f);
   }
 
   -- each record agrees with the day
@@ -223,7 +202,7 @@ finished kind s f es over = any_time kind s f (played (begun kind s).day es).day
 -- ---- its records are written
 
 pub writes : (d : Day) (p : ℕ) → p < size_of d → (execution_of d).stopped p ≡ true → (out : List ℕ) (at : ℕ) → at + length (record_bytes d p) ≤ length out
-    → written_of d p out at ≡ record { answer = W.Next (at + length (record_bytes d p)); buffer = put_at at (record_bytes d p) out }
+    → written_of d p out at ≡ record { answer = Ok (at + length (record_bytes d p)); buffer = put_at at (record_bytes d p) out }
 unfolding written_of written_at record_bytes
 writes d p l s out at room = rw (lt-ltb p (size_of d) l, s, le-leb (at + length (layout (record_of d p))) (length out) room)
 
@@ -231,7 +210,7 @@ pub record_written : (kind : ℕ) (s : List ℕ) → Free kind s → (es : List 
     → at + length (record_bytes (played (begun kind s).day es).day p) ≤ length out
     → written_of (played (begun kind s).day es).day p out at
     ≡ record {
-      answer = W.Next (at + length (record_bytes (played (begun kind s).day es).day p));
+      answer = Ok (at + length (record_bytes (played (begun kind s).day es).day p));
       buffer = put_at at (record_bytes (played (begun kind s).day es).day p) out;
     }
 record_written kind s f es over p l out at room = writes d p on (over p on) out at room
@@ -244,21 +223,21 @@ record_written kind s f es over p l out at room = writes d p on (over p on) out 
 
 -- ---- a day that is over can be had
 
-plays_on : {a b c : Day} {es fs : List Event} → Plays a es b → Plays b fs c → Plays a (es ++ fs) c
+pub plays_on : {a b c : Day} {es fs : List Event} → Plays a es b → Plays b fs c → Plays a (es ++ fs) c
 plays_on done q = q
 plays_on (next f p) q = next f (plays_on p q)
 
-abbrev stop_of : ℕ → Event
+abbrev pub stop_of : ℕ → Event
 stop_of p = record { kind = 1; place = record { 0 = p }; other = record { 0 = 0 } }
 
 -- events after which those below m have stopped
-record Stopping (k : Kind) (s : List ℕ) (d : Day) (m : ℕ) : Type 0 where
-  events : List Event
-  day : Day
-  plays : Plays d events day
-  few : length events ≤ m
-  kept : Kept k s day
-  all : (p : ℕ) → p < m → (execution_of day).stopped p ≡ true
+pub record Stopping (k : Kind) (s : List ℕ) (d : Day) (m : ℕ) : Type 0 where
+  pub events : List Event
+  pub day : Day
+  pub plays : Plays d events day
+  pub few : length events ≤ m
+  pub kept : Kept k s day
+  pub all : (p : ℕ) → p < m → (execution_of day).stopped p ≡ true
 
 module _ {k : Kind} {s : List ℕ} {d : Day} (g : Kept k s d) where
   one_stop : (m : ℕ) → m < length s → Stopping k s d m → Stopping k s d (suc m)
@@ -292,7 +271,7 @@ module _ {k : Kind} {s : List ℕ} {d : Day} (g : Kept k s d) where
         all = λ p h. subst (λ (D : Execution). D.stopped p ≡ true) (sym is) (also p (last_or_below p m h));
       }
         where
-          free : fault_on b (stop_of m) ≡ 0
+          free : fault_on b (stop_of m) ≡ Ok tt
           free = allowed_free (size_of b) (execution_of b) (stop_of m) (stops refl on t)
 
           is : execution_of (day_after b (stop_of m)) ≡ after_stop (execution_of b) m
@@ -302,15 +281,15 @@ module _ {k : Kind} {s : List ℕ} {d : Day} (g : Kept k s d) where
           also p (inl e) = rw e (or_right ((execution_of b).stopped m) (eqb_self m))
           also p (inr h) = or_left (eqb p m) (w.all p h)
 
-  all_stop : (m : ℕ) → m ≤ length s → Stopping k s d m
+  pub all_stop : (m : ℕ) → m ≤ length s → Stopping k s d m
   all_stop zero l = record { events = []; day = d; plays = done; few = omega arith; kept = g; all = λ p h. absurd (omega arith) }
   all_stop (suc m) l = one_stop m l (all_stop m (omega arith))
 
 -- whatever was played, further events that are all allowed end the day
-pub ends : (kind : ℕ) (s : List ℕ) → Free kind s → (es : List Event) → (fs : List Event) × ((played (played (begun kind s).day es).day fs).refusal ≡ 0)
+pub ends : (kind : ℕ) (s : List ℕ) → Free kind s → (es : List Event) → (fs : List Event) × ((played (played (begun kind s).day es).day fs).answer ≡ Ok tt)
     × Over (played (played (begun kind s).day es).day fs).day
 ends kind s f es =
     let g = played_kept (begun_kept kind s f) es in
     let w = all_stop g (length s) (omega arith) in
     let e = plays_played w.plays (omega (arith, w.few, f.list.sound.few)) in
-    (w.events, ap (λ (p : Played). p.refusal) e, subst (λ (p : Played). Over p.day) (sym e) (λ p l. w.all p (rw w.kept.sound.is_size at l)))
+    (w.events, ap (λ (p : Played). p.answer) e, subst (λ (p : Played). Over p.day) (sym e) (λ p l. w.all p (rw w.kept.sound.is_size at l)))

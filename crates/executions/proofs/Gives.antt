@@ -1,12 +1,15 @@
 -- What each call gives, one law for each way in which the code returns. Assumes nothing.
+use Rattle.refusals.specs.declared.Refusal.{Refusal}
+use Rattle.refusals.specs.declared.Refusal.TheVariants as R
+use Rattle.std.specs.Prelude.{true, false, Result, Ok, Err, is_ok, is_err}
 use mathlib.Core.Path.{◌≡◌, refl, sym, ap, ◌∙◌}
 use mathlib.Core.List.{List, []}
-use Prim.Native.Nat.{ℕ, ◌+◌, ◌-◌, ◌^◌, ◌≤◌, ◌<◌}
+use Prim.Native.Nat.{ℕ, ◌+◌, ◌≤◌, ◌<◌}
 use native.Mathlib.Numerals.{add-one}
 use native.Mathlib.Omega.{arith}
+use borrow.Author.Tests.{ne_eqb}
 use lib.ListN.{length, drop, get_or}
 use lib.Seq.{drop-cons, drop-length}
-use borrow.Author.Tests.{eq-eqb, ne_eqb, lt-ltb, le-ltb}
 use Rattle.sets.specs.Sets.{Places, nothing, with}
 use Rattle.sets.specs.PlaceSets.{has, kept, Words}
 use Rattle.sets.specs.declared.PlaceSet.{PlaceSet}
@@ -14,21 +17,17 @@ use Rattle.sets.proofs.Laws.{packed_is}
 use Rattle.histories.specs.declared.Kind.{Kind}
 use Rattle.histories.specs.declared.Kind.TheVariants.{Full, Short}
 use Rattle.serials.specs.Rosters.{listed, padded}
-use Rattle.serials.specs.declared.Listed.{Listed}
-use Rattle.serials.specs.declared.Listed.TheVariants as L
 use Rattle.serials.proofs.Pads.{padded_few}
 use Rattle.rows.specs.Rows.{no_rows, rows_of, table_of}
 use Rattle.layouts.specs.Layout.{known_kind, kind_of}
 use Rattle.answers.specs.Views.{size}
 use Rattle.executions.specs.declared.Day.{Day}
-use Rattle.executions.specs.declared.Opening.TheVariants as G
 use Rattle.executions.specs.declared.Event.{Event}
 use Rattle.executions.specs.declared.Happened.{Happened}
 use Rattle.executions.specs.declared.Played.{Played}
 use Rattle.executions.specs.Executions.{fault, listeners, noting}
 use Rattle.executions.specs.Parts.{stops_of}
-use Rattle.executions.specs.Promises.{size_of, execution_of, starting, unbegun, begun_as, begun, stopping, hearing, day_after, happened, one_more, counted, stepped, played_from, played}
-use Rattle.executions.proofs.Plays as plays
+use Rattle.executions.specs.Promises.{size_of, execution_of, starting, unbegun, begun_as, begun, stopping, hearing, day_after, happened_as, happened, one_more, counted_as, counted, stepped_as, stepped, played_from, played}
 
 -- ---- opening
 
@@ -38,15 +37,15 @@ unfolding starting
 starting_is k s serials e w l p we he q =
     λ i. record { kind = k; count = length s; serials = (p ∙ padded_few s l) i; stopped = packed_is e nothing we he i; rows = q i }
 
-pub unbegun_is : (j : ℕ) (d : Day) → d ≡ starting Full [] → record { answer = G.Refused j; day = d } ≡ unbegun j
+pub unbegun_is : (j : Refusal) (d : Day) → d ≡ starting Full [] → record { answer = Err j; day = d } ≡ unbegun j
 unfolding unbegun
 unbegun_is j d e = rw e
 
-pub begun_sound : (k : Kind) (s : List ℕ) (l : Listed) (d : Day) → l ≡ listed s → l ≡ L.Sound → d ≡ starting k s → record { answer = G.Opened; day = d } ≡ begun_as k s (listed s)
+pub begun_sound : (k : Kind) (s : List ℕ) (l : Result (Unit {0}) Refusal) (d : Day) → l ≡ listed s → l ≡ Ok tt → d ≡ starting k s → record { answer = Ok tt; day = d } ≡ begun_as k s (listed s)
 unfolding begun_as
 begun_sound k s l d e f g = rw (sym e ∙ f, g)
 
-pub begun_refused : (k : Kind) (s : List ℕ) (l : Listed) (j : ℕ) → l ≡ listed s → l ≡ L.Refused j → unbegun j ≡ begun_as k s (listed s)
+pub begun_refused : (k : Kind) (s : List ℕ) (l : Result (Unit {0}) Refusal) (j : Refusal) → l ≡ listed s → l ≡ Err j → unbegun j ≡ begun_as k s (listed s)
 unfolding begun_as
 begun_refused k s l j e f = rw (sym e ∙ f)
 
@@ -58,7 +57,7 @@ pub begun_short : (kind : ℕ) (s : List ℕ) → kind ≡ 2 → begun_as Short 
 unfolding begun known_kind kind_of
 begun_short kind s e = rw e
 
-pub begun_unknown : (kind : ℕ) (s : List ℕ) → (kind ≡ 1 → ⊥) → (kind ≡ 2 → ⊥) → unbegun 2 ≡ begun kind s
+pub begun_unknown : (kind : ℕ) (s : List ℕ) → (kind ≡ 1 → ⊥) → (kind ≡ 2 → ⊥) → unbegun R.UnknownKind ≡ begun kind s
 unfolding begun known_kind
 begun_unknown kind s a b = rw (ne_eqb kind 1 a, ne_eqb kind 2 b)
 
@@ -87,41 +86,51 @@ hearing_is d p q n w h e =
     ∙ ap (λ (who : Places). table_of (noting who q (rows_of d.rows))) (listeners_of d p) in
     λ i. record { kind = d.kind; count = d.count; serials = d.serials; stopped = d.stopped; rows = t i }
 
-pub happened_refused : (d : Day) (e : Event) (j : ℕ) → j ≡ fault (size_of d) (execution_of d) e → (j ≡ 0 → ⊥) → record { refusal = j; day = d } ≡ happened d e
-happened_refused d e j f h = rw f (sym (plays.happened_refused d e (λ z. h (f ∙ z))))
+pub happened_refused : (d : Day) (e : Event) (r : Result (Unit {0}) Refusal) (j : Refusal) → r ≡ fault (size_of d) (execution_of d) e → r ≡ Err j → record { answer = Err j; day = d } ≡ happened d e
+unfolding happened happened_as
+happened_refused d e r j f h = ap (happened_as d e) (sym h ∙ f)
 
-pub happened_allowed : (d : Day) (e : Event) (j : ℕ) (n : Day) → j ≡ fault (size_of d) (execution_of d) e → j ≡ 0 → n ≡ day_after d e → record { refusal = 0; day = n } ≡ happened d e
-happened_allowed d e j n f h g = rw g (sym (plays.happened_allowed d e (sym f ∙ h)))
+pub happened_allowed : (d : Day) (e : Event) (r : Result (Unit {0}) Refusal) (n : Day) → r ≡ fault (size_of d) (execution_of d) e → r ≡ Ok tt → n ≡ day_after d e → record { answer = Ok tt; day = n } ≡ happened d e
+unfolding happened happened_as
+happened_allowed d e r n f h g = rw g (ap (happened_as d e) (sym h ∙ f))
 
 -- ---- a list of events
 
-pub one_more_lem : (n : ℕ) → n < 2 ^ 64 - 1 → n + 1 ≡ one_more n
-unfolding one_more
-one_more_lem n h = rw (lt-ltb n (2 ^ 64 - 1) h)
+pub counted_refused : (n : ℕ) (h : Happened) → is_ok h.answer ≡ false → record { count = n; answer = h.answer; day = h.day } ≡ counted n h
+unfolding counted counted_as
+counted_refused n h r = go h.answer r
+  where
+    go : (a : Result (Unit {0}) Refusal) → is_ok a ≡ false → record { count = n; answer = a; day = h.day } ≡ counted_as n h.day a
+    go (Ok u) e = cc
+    go (Err j) e = refl
 
-pub no_more : (n : ℕ) → 2 ^ 64 - 1 ≤ n → n ≡ one_more n
-unfolding one_more
-no_more n h = rw (le-ltb n (2 ^ 64 - 1) h)
+pub counted_allowed : (n : ℕ) (h : Happened) (m : ℕ) → is_ok h.answer ≡ true → m ≡ one_more n → record { count = m; answer = h.answer; day = h.day } ≡ counted n h
+unfolding counted counted_as
+counted_allowed n h m r e = go h.answer r
+  where
+    go : (a : Result (Unit {0}) Refusal) → is_ok a ≡ true → record { count = m; answer = a; day = h.day } ≡ counted_as n h.day a
+    go (Ok u) z = rw e
+    go (Err j) z = cc
 
-pub counted_refused : (n : ℕ) (h : Happened) → (h.refusal ≡ 0 → ⊥) → record { count = n; refusal = h.refusal; day = h.day } ≡ counted n h
-unfolding counted
-counted_refused n h r = rw (ne_eqb h.refusal 0 r)
+pub stepped_refused : (p : Played) (e : Event) → is_err p.answer ≡ true → p ≡ stepped p e
+unfolding stepped stepped_as
+stepped_refused p e r = go p.answer r
+  where
+    go : (a : Result (Unit {0}) Refusal) → is_err a ≡ true → p ≡ stepped_as p e a
+    go (Ok u) z = cc
+    go (Err j) z = refl
 
-pub counted_allowed : (n : ℕ) (h : Happened) (m : ℕ) → h.refusal ≡ 0 → m ≡ one_more n → record { count = m; refusal = 0; day = h.day } ≡ counted n h
-unfolding counted
-counted_allowed n h m r e = rw (eq-eqb h.refusal 0 r, e)
-
-pub stepped_refused : (p : Played) (e : Event) → (p.refusal ≡ 0 → ⊥) → p ≡ stepped p e
-unfolding stepped
-stepped_refused p e r = rw (ne_eqb p.refusal 0 r)
-
-pub stepped_on : (p : Played) (e : Event) (h : Happened) (s : Played) → p.refusal ≡ 0 → h ≡ happened p.day e → s ≡ counted p.count h → s ≡ stepped p e
-unfolding stepped
-stepped_on p e h s r a b = rw (eq-eqb p.refusal 0 r) (b ∙ ap (counted p.count) a)
+pub stepped_on : (p : Played) (e : Event) (h : Happened) (s : Played) → is_err p.answer ≡ false → h ≡ happened p.day e → s ≡ counted p.count h → s ≡ stepped p e
+unfolding stepped stepped_as
+stepped_on p e h s r a b = go p.answer r
+  where
+    go : (a : Result (Unit {0}) Refusal) → is_err a ≡ false → s ≡ stepped_as p e a
+    go (Ok u) z = b ∙ ap (counted p.count) a
+    go (Err j) z = cc
 
 -- before any event
 abbrev pub start : Day → Played
-start d = record { count = 0; refusal = 0; day = d }
+start d = record { count = 0; answer = Ok tt; day = d }
 
 pub played_is : (d : Day) (es : List Event) → played d es ≡ played_from (start d) es
 unfolding played

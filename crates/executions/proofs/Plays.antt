@@ -1,22 +1,23 @@
 -- A list of events, played: what holds of the day that is left, how many are counted, and which one is refused. Assumes nothing.
+use Rattle.refusals.specs.declared.Refusal.{Refusal}
+use Rattle.std.specs.Prelude.{Result, Ok, Err}
 use mathlib.Core.Path.{◌≡◌, refl, sym, ap, ap₂, ◌∙◌, subst}
-use mathlib.Core.Bool.{Bool, true, false, cond}
+use mathlib.Core.Bool.{Bool, cond}
 use mathlib.Core.Logic.{◌⊎◌, inl, inr}
 use mathlib.Core.List.{List, [], ◌∷◌, ◌++◌, append-nil}
 use Prim.Native.Nat.{ℕ, suc, ◌+◌, ◌-◌, ◌^◌, ◌<◌, ◌≤◌}
 use native.Mathlib.Omega.{arith}
 use lib.ListN.{length, take, drop, length-append}
 use lib.Seq.{take_at, drop_at}
-use lib.Dec.{eqb}
-use borrow.Author.Tests.{eqb-true, eqb-false, eq-eqb, ne_eqb, lt-ltb}
+use borrow.Author.Tests.{lt-ltb}
 use Rattle.histories.specs.declared.Kind.{Kind}
 use Rattle.executions.specs.declared.Day.{Day}
 use Rattle.executions.specs.declared.Event.{Event}
 use Rattle.executions.specs.declared.Happened.{Happened}
 use Rattle.executions.specs.declared.Played.{Played}
 use Rattle.executions.specs.Executions.{Execution, fault, happening}
-use Rattle.executions.specs.Promises.{size_of, execution_of, starting, day_after, happened, one_more, counted, stepped, played_from, played}
-use Rattle.executions.proofs.Executed.{cond_true, cond_false, Orderly, orderly_morning, orderly_next}
+use Rattle.executions.specs.Promises.{size_of, execution_of, starting, day_after, happened_as, happened, one_more, counted_as, counted, stepped_as, stepped, played_from, played}
+use Rattle.executions.proofs.Executed.{Orderly, orderly_morning, orderly_next}
 use Rattle.executions.proofs.Days.{Sound, starting_execution, starting_sound, after_execution, after_sound}
 
 -- ---- what holds of a day, whatever was played
@@ -29,38 +30,38 @@ pub kept_starting : (k : Kind) (s : List ℕ) → length s ≤ 128 → Kept k s 
 kept_starting k s few =
     record { sound = starting_sound k s few; orderly = subst (λ (D : Execution). Orderly k (length s) D) (sym (starting_execution k s)) (orderly_morning k (length s)) }
 
--- the refusal that an event meets on a day, or 0
-abbrev pub fault_on : Day → Event → ℕ
+-- whether an event is allowed on a day, or the refusal that it meets
+abbrev pub fault_on : Day → Event → Result (Unit {0}) Refusal
 fault_on d e = fault (size_of d) (execution_of d) e
 
 module _ (d : Day) (e : Event) where
   -- an event that is allowed
-  pub happened_allowed : fault_on d e ≡ 0 → happened d e ≡ record { refusal = 0; day = day_after d e }
-  unfolding happened
-  happened_allowed f = cond_true _ _ (eq-eqb (fault_on d e) 0 f)
+  pub happened_allowed : fault_on d e ≡ Ok tt → happened d e ≡ record { answer = Ok tt; day = day_after d e }
+  unfolding happened happened_as
+  happened_allowed f = ap (happened_as d e) f
 
   -- a refused one leaves the day as it was
-  pub happened_refused : ¬ (fault_on d e ≡ 0) → happened d e ≡ record { refusal = fault_on d e; day = d }
-  unfolding happened
-  happened_refused f = cond_false _ _ (ne_eqb (fault_on d e) 0 f)
+  pub happened_refused : {j : Refusal} → fault_on d e ≡ Err j → happened d e ≡ record { answer = Err j; day = d }
+  unfolding happened happened_as
+  happened_refused f = ap (happened_as d e) f
 
   -- allowed or refused
-  faulted : (fault_on d e ≡ 0) ⊎ (¬ (fault_on d e ≡ 0))
-  faulted = go (eqb (fault_on d e) 0) refl
+  faulted : (fault_on d e ≡ Ok tt) ⊎ ((j : Refusal) × (fault_on d e ≡ Err j))
+  faulted = go (fault_on d e)
     where
-      go : (b : Bool) → eqb (fault_on d e) 0 ≡ b → (fault_on d e ≡ 0) ⊎ (¬ (fault_on d e ≡ 0))
-      go true h = inl (eqb-true (fault_on d e) 0 h)
-      go false h = inr (eqb-false (fault_on d e) 0 h)
+      go : (a : Result (Unit {0}) Refusal) → (a ≡ Ok tt) ⊎ ((j : Refusal) × (a ≡ Err j))
+      go (Ok u) = inl refl
+      go (Err j) = inr (j, refl)
 
 module _ {k : Kind} {roster : List ℕ} {d : Day} (g : Kept k roster d) (e : Event) where
   -- on the day's roster
   pub fault_on_lem : fault (length roster) (execution_of d) e ≡ fault_on d e
   fault_on_lem = ap (λ (n : ℕ). fault n (execution_of d) e) (sym g.sound.is_size)
 
-  pub after_is : fault_on d e ≡ 0 → execution_of (day_after d e) ≡ happening k (length roster) (execution_of d) e
+  pub after_is : fault_on d e ≡ Ok tt → execution_of (day_after d e) ≡ happening k (length roster) (execution_of d) e
   after_is f = after_execution g.sound e f ∙ ap₂ (λ (j : Kind) (n : ℕ). happening j n (execution_of d) e) g.sound.is_kind g.sound.is_size
 
-  pub kept_after : fault_on d e ≡ 0 → Kept k roster (day_after d e)
+  pub kept_after : fault_on d e ≡ Ok tt → Kept k roster (day_after d e)
   kept_after f = record {
     sound = after_sound g.sound e f;
     orderly = subst (λ (D : Execution). Orderly k (length roster) D) (sym (after_is f)) (orderly_next g.orderly e (fault_on_lem ∙ f));
@@ -69,25 +70,25 @@ module _ {k : Kind} {roster : List ℕ} {d : Day} (g : Kept k roster d) (e : Eve
   pub kept_happened : Kept k roster (happened d e).day
   kept_happened = go (faulted d e)
     where
-      go : (fault_on d e ≡ 0) ⊎ (¬ (fault_on d e ≡ 0)) → Kept k roster (happened d e).day
+      go : (fault_on d e ≡ Ok tt) ⊎ ((j : Refusal) × (fault_on d e ≡ Err j)) → Kept k roster (happened d e).day
       go (inl f) = subst (λ (h : Happened). Kept k roster h.day) (sym (happened_allowed d e f)) (kept_after f)
-      go (inr f) = subst (λ (h : Happened). Kept k roster h.day) (sym (happened_refused d e f)) g
+      go (inr (j, f)) = subst (λ (h : Happened). Kept k roster h.day) (sym (happened_refused d e f)) g
 
-either_day : (b : Bool) (x y : Played) (d : Day) → x.day ≡ d → y.day ≡ d → (cond b x y).day ≡ d
-either_day true x y d e f = e
-either_day false x y d e f = f
-
-counted_day : (n : ℕ) (h : Happened) → (counted n h).day ≡ h.day
-unfolding counted
-counted_day n h = either_day (eqb h.refusal 0) _ _ h.day refl refl
+pub counted_day : (n : ℕ) (h : Happened) → (counted n h).day ≡ h.day
+unfolding counted counted_as
+counted_day n h = go h.answer
+  where
+    go : (a : Result (Unit {0}) Refusal) → (counted_as n h.day a).day ≡ h.day
+    go (Ok u) = refl
+    go (Err j) = refl
 
 kept_stepped : {k : Kind} {roster : List ℕ} (p : Played) → Kept k roster p.day → (e : Event) → Kept k roster (stepped p e).day
-unfolding stepped
-kept_stepped {k} {roster} p g e = go (eqb p.refusal 0)
+unfolding stepped stepped_as
+kept_stepped {k} {roster} p g e = go p.answer
   where
-    go : (b : Bool) → Kept k roster (cond b (counted p.count (happened p.day e)) p).day
-    go true = subst (Kept k roster) (sym (counted_day p.count (happened p.day e))) (kept_happened g e)
-    go false = g
+    go : (a : Result (Unit {0}) Refusal) → Kept k roster (stepped_as p e a).day
+    go (Ok u) = subst (Kept k roster) (sym (counted_day p.count (happened p.day e))) (kept_happened g e)
+    go (Err j) = g
 
 kept_from : {k : Kind} {roster : List ℕ} (p : Played) → Kept k roster p.day → (es : List Event) → Kept k roster (played_from p es).day
 unfolding played_from
@@ -97,21 +98,21 @@ kept_from p g (e ∷ es) = kept_from (stepped p e) (kept_stepped p g e) es
 -- every list of events, and so every front of one, leaves such a day
 pub played_kept : {k : Kind} {roster : List ℕ} {d : Day} → Kept k roster d → (es : List Event) → Kept k roster (played d es).day
 unfolding played
-played_kept {d = d} g es = kept_from (record { count = 0; refusal = 0; day = d }) g es
+played_kept {d = d} g es = kept_from (record { count = 0; answer = Ok tt; day = d }) g es
 
 -- ---- events one after another, each allowed
 
 pub data Plays : Day → List Event → Day → Type 0 where
   done : {d : Day} → Plays d [] d
-  next : {a b : Day} {e : Event} {es : List Event} → fault_on a e ≡ 0 → Plays (day_after a e) es b → Plays a (e ∷ es) b
+  next : {a b : Day} {e : Event} {es : List Event} → fault_on a e ≡ Ok tt → Plays (day_after a e) es b → Plays a (e ∷ es) b
 
 -- what is refused: the first of the events that are left
 pub record Refuses (p : Played) (rest : List Event) : Type 0 where
   pub event : Event
   pub later : List Event
   pub first : rest ≡ event ∷ later
-  pub refused : fault_on p.day event ≡ p.refusal
-  pub some : ¬ (p.refusal ≡ 0)
+  pub refused : fault_on p.day event ≡ p.answer
+  pub some : (j : Refusal) × (p.answer ≡ Err j)
 
 -- how a play ends that starts with c events counted: those in front are played, and the others are none, or their first is refused
 pub record Ends (c : ℕ) (d : Day) (es : List Event) (p : Played) : Type 0 where
@@ -120,39 +121,38 @@ pub record Ends (c : ℕ) (d : Day) (es : List Event) (p : Played) : Type 0 wher
   pub splits : es ≡ front ++ rest
   pub plays : Plays d front p.day
   pub counts : p.count ≡ c + length front
-  pub ends : ((rest ≡ []) × (p.refusal ≡ 0)) ⊎ Refuses p rest
+  pub ends : ((rest ≡ []) × (p.answer ≡ Ok tt)) ⊎ Refuses p rest
 
 -- a play so far, with no refusal
 abbrev sofar : ℕ → Day → Played
-sofar c d = record { count = c; refusal = 0; day = d }
+sofar c d = record { count = c; answer = Ok tt; day = d }
 
 one_more_lem : (m c l : ℕ) → c + suc l < m → c < m - 1
 one_more_lem m c l h = omega arith
 
 module _ (c : ℕ) (d : Day) (e : Event) where
-  step_allowed : (l : ℕ) → c + suc l < 2 ^ 64 → fault_on d e ≡ 0 → stepped (sofar c d) e ≡ sofar (c + 1) (day_after d e)
-  unfolding stepped counted one_more
+  step_allowed : (l : ℕ) → c + suc l < 2 ^ 64 → fault_on d e ≡ Ok tt → stepped (sofar c d) e ≡ sofar (c + 1) (day_after d e)
+  unfolding stepped stepped_as counted counted_as one_more
   step_allowed l h f =
       ap (counted c) (happened_allowed d e f)
       ∙ ap (λ (b : Bool). sofar (cond b (c + 1) c) (day_after d e)) (lt-ltb c (2 ^ 64 - 1) (one_more_lem (2 ^ 64) c l h))
 
-  step_refused : ¬ (fault_on d e ≡ 0) → stepped (sofar c d) e ≡ record { count = c; refusal = fault_on d e; day = d }
-  unfolding stepped counted
-  step_refused f = ap (counted c) (happened_refused d e f) ∙ cond_false _ _ (ne_eqb (fault_on d e) 0 f)
+  step_refused : {j : Refusal} → fault_on d e ≡ Err j → stepped (sofar c d) e ≡ record { count = c; answer = Err j; day = d }
+  unfolding stepped stepped_as counted counted_as
+  step_refused f = ap (counted c) (happened_refused d e f)
 
 -- after a refusal nothing changes
-from_refused : (p : Played) → ¬ (p.refusal ≡ 0) → (es : List Event) → played_from p es ≡ p
-unfolding played_from stepped
+from_refused : (p : Played) {j : Refusal} → p.answer ≡ Err j → (es : List Event) → played_from p es ≡ p
+unfolding played_from stepped stepped_as
 from_refused p r [] = refl
-from_refused p r (e ∷ es) =
-    ap (λ (b : Bool). played_from (cond b (counted p.count (happened p.day e)) p) es) (ne_eqb p.refusal 0 r) ∙ from_refused p r es
+from_refused p r (e ∷ es) = ap (λ (a : Result (Unit {0}) Refusal). played_from (stepped_as p e a) es) r ∙ from_refused p r es
 
 from_ends : (c : ℕ) (d : Day) (es : List Event) → c + length es < 2 ^ 64 → Ends c d es (played_from (sofar c d) es)
 unfolding played_from
 from_ends c d [] h = record { front = []; rest = []; splits = refl; plays = done; counts = omega arith; ends = inl (refl, refl) }
 from_ends c d (e ∷ es) h = go (faulted d e) (λ l. from_ends (c + 1) (day_after d e) es l)
   where
-    more : fault_on d e ≡ 0 → Ends (c + 1) (day_after d e) es (played_from (sofar (c + 1) (day_after d e)) es) → Ends c d (e ∷ es) (played_from (sofar (c + 1) (day_after d e)) es)
+    more : fault_on d e ≡ Ok tt → Ends (c + 1) (day_after d e) es (played_from (sofar (c + 1) (day_after d e)) es) → Ends c d (e ∷ es) (played_from (sofar (c + 1) (day_after d e)) es)
     more f w = record {
       front = e ∷ w.front;
       rest = w.rest;
@@ -162,20 +162,20 @@ from_ends c d (e ∷ es) h = go (faulted d e) (λ l. from_ends (c + 1) (day_afte
       ends = w.ends;
     }
 
-    halts : ¬ (fault_on d e ≡ 0) → Ends c d (e ∷ es) (record { count = c; refusal = fault_on d e; day = d })
-    halts f = record {
+    halts : (j : Refusal) → fault_on d e ≡ Err j → Ends c d (e ∷ es) (record { count = c; answer = Err j; day = d })
+    halts j f = record {
       front = [];
       rest = e ∷ es;
       splits = refl;
       plays = done;
       counts = omega arith;
-      ends = inr (record { event = e; later = es; first = refl; refused = refl; some = f });
+      ends = inr (record { event = e; later = es; first = refl; refused = f; some = (j, refl) });
     }
 
-    go : (fault_on d e ≡ 0) ⊎ (¬ (fault_on d e ≡ 0)) → (c + 1 + length es < 2 ^ 64 → Ends (c + 1) (day_after d e) es (played_from (sofar (c + 1) (day_after d e)) es))
+    go : (fault_on d e ≡ Ok tt) ⊎ ((j : Refusal) × (fault_on d e ≡ Err j)) → (c + 1 + length es < 2 ^ 64 → Ends (c + 1) (day_after d e) es (played_from (sofar (c + 1) (day_after d e)) es))
         → Ends c d (e ∷ es) (played_from (stepped (sofar c d) e) es)
     go (inl f) rest = rw (step_allowed c d e (length es) h f) (more f (rest (omega arith)))
-    go (inr f) rest = rw (step_refused c d e f, from_refused (record { count = c; refusal = fault_on d e; day = d }) f es) (halts f)
+    go (inr (j, f)) rest = rw (step_refused c d e f, from_refused (record { count = c; answer = Err j; day = d }) refl es) (halts j f)
 
 -- ---- the play of a list
 
@@ -193,7 +193,7 @@ plays_from c (next {a = a} {b = b} {e = e} {es = es} f p) h =
     ap (λ (p : Played). played_from p es) (step_allowed c a e (length es) h f) ∙ plays_from (c + 1) p (omega arith) ∙ ap (λ (n : ℕ). sofar n b) z
 
 -- events that are all allowed are all played
-pub plays_played : {a b : Day} {es : List Event} → Plays a es b → length es < 2 ^ 64 → played a es ≡ record { count = length es; refusal = 0; day = b }
+pub plays_played : {a b : Day} {es : List Event} → Plays a es b → length es < 2 ^ 64 → played a es ≡ record { count = length es; answer = Ok tt; day = b }
 unfolding played
 plays_played {b = b} {es = es} p h =
     let z : 0 + length es ≡ length es = omega arith in
@@ -204,14 +204,14 @@ module _ (d : Day) (es : List Event) (h : length es < 2 ^ 64) where
   w = played_ends d es h
 
   -- without a refusal all are counted
-  pub counted_all : (played d es).refusal ≡ 0 → (played d es).count ≡ length es
+  pub counted_all : (played d es).answer ≡ Ok tt → (played d es).count ≡ length es
   counted_all z = go w.ends
     where
-      go : ((w.rest ≡ []) × ((played d es).refusal ≡ 0)) ⊎ Refuses (played d es) w.rest → (played d es).count ≡ length es
+      go : ((w.rest ≡ []) × ((played d es).answer ≡ Ok tt)) ⊎ Refuses (played d es) w.rest → (played d es).count ≡ length es
       go (inl (n, _)) =
           let s : es ≡ w.front = w.splits ∙ ap (λ (l : List Event). w.front ++ l) n ∙ append-nil w.front in
           w.counts ∙ omega (arith, ap length s)
-      go (inr r) = absurd (r.some z)
+      go (inr r) = let w = r.some.1 in cc
 
   pub count_within : (played d es).count ≤ length es
   count_within = omega (arith, w.counts, ap length w.splits, length-append w.front w.rest)
@@ -230,7 +230,7 @@ module _ (d : Day) (es : List Event) (h : length es < 2 ^ 64) where
   pub counted_plays : Plays d (take (played d es).count es) (played d es).day
   counted_plays = subst (λ (l : List Event). Plays d l (played d es).day) (sym front_is) w.plays
 
-  pub counted_played : played d (take (played d es).count es) ≡ record { count = (played d es).count; refusal = 0; day = (played d es).day }
+  pub counted_played : played d (take (played d es).count es) ≡ record { count = (played d es).count; answer = Ok tt; day = (played d es).day }
   counted_played =
       let n : length (take (played d es).count es) ≡ (played d es).count = ap length front_is ∙ omega (arith, w.counts) in
       plays_played counted_plays (omega (arith, count_within)) ∙ ap (λ (c : ℕ). sofar c (played d es).day) n
@@ -240,9 +240,9 @@ module _ (d : Day) (es : List Event) (h : length es < 2 ^ 64) where
   counted_day_is = ap (λ (p : Played). p.day) counted_played
 
   -- with a refusal, the event behind those counted is refused by it on the day that is left
-  pub refused_next : ¬ ((played d es).refusal ≡ 0) → Refuses (played d es) (drop (played d es).count es)
+  pub refused_next : {j : Refusal} → (played d es).answer ≡ Err j → Refuses (played d es) (drop (played d es).count es)
   refused_next z = subst (Refuses (played d es)) (sym rest_is) (go w.ends)
     where
-      go : ((w.rest ≡ []) × ((played d es).refusal ≡ 0)) ⊎ Refuses (played d es) w.rest → Refuses (played d es) w.rest
-      go (inl (_, e)) = absurd (z e)
+      go : ((w.rest ≡ []) × ((played d es).answer ≡ Ok tt)) ⊎ Refuses (played d es) w.rest → Refuses (played d es) w.rest
+      go (inl (_, e)) = cc
       go (inr r) = r

@@ -1,10 +1,10 @@
 -- The opening of a day, and the records of one that is over, offered to a recovery: what is said of them in bytes, by the definitions that the contracts of the day and of
 -- the recovery cite. Assumes nothing.
-use Rattle.std.specs.Prelude.{◌≡◌, true, ◌⊎◌, List, map, ℕ, ◌<◌}
+use Rattle.std.specs.Prelude.{◌≡◌, true, Ok, ◌⊎◌, List, map, ℕ, ◌<◌}
 use Rattle.histories.specs.Histories.{Last}
 use Rattle.layouts.specs.Layout.{layout}
 use Rattle.calls.specs.declared.Recovery.{Recovery}
-use Rattle.calls.specs.declared.Asked.TheVariants as A
+use Rattle.answers.specs.declared.Answer.TheVariants as A
 use Rattle.calls.specs.Promises.{asked}
 use Rattle.calls.specs.Demand as D
 use Rattle.calls.specs.Demand.{Said, refused}
@@ -43,5 +43,5 @@ records_of d ps = map (record_bytes d) ps
 
 -- what r answers is true of the day: last only where nobody heard it stop, not last only where somebody did
 pub record True (d : Day) (r : Recovery) : Type 0 where
-  pub last : (p : ℕ) → asked r p ≡ A.Last → Last (execution_of d).row p
-  pub not_last : (p : ℕ) → asked r p ≡ A.NotLast → (x : ℕ) × ((execution_of d).row x p ≡ true)
+  pub last : (p : ℕ) → asked r p ≡ Ok A.Last → Last (execution_of d).row p
+  pub not_last : (p : ℕ) → asked r p ≡ Ok A.NotLast → (x : ℕ) × ((execution_of d).row x p ≡ true)

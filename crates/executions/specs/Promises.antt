@@ -1,21 +1,18 @@
 -- What each call on a day gives, and each lent byte afterwards, for every day and every input: the definitions that the contracts
 -- cite. Assumes nothing.
-use Rattle.std.specs.Prelude.{Bool, true, false, cond, List, [], ◌∷◌, ◌++◌, ℕ, zero, suc, ◌+◌, ◌-◌, ◌^◌, length, take, replicate, eqb, ltb}
-use Rattle.sets.specs.Sets.{Places, nothing, below, intersection, with}
+use Rattle.refusals.specs.declared.Refusal.{Refusal}
+use Rattle.refusals.specs.declared.Refusal.TheVariants as R
+use Rattle.std.specs.Prelude.{cond, Result, Ok, Err, List, [], ◌∷◌, ◌++◌, ℕ, ◌+◌, ◌-◌, ◌^◌, length, take, replicate, eqb, ltb}
+use Rattle.sets.specs.Sets.{nothing, below, intersection, with}
 use Rattle.sets.specs.PlaceSets.{has, packed}
 use Rattle.histories.specs.declared.Kind.{Kind}
-use Rattle.histories.specs.declared.Kind.TheVariants.{Full, Short}
-use Rattle.histories.specs.Histories.{History}
+use Rattle.histories.specs.declared.Kind.TheVariants.{Full}
 use Rattle.serials.specs.Rosters.{listed}
-use Rattle.serials.specs.declared.Listed.{Listed}
-use Rattle.serials.specs.declared.Listed.TheVariants as L
 use Rattle.rows.specs.Rows.{no_rows, rows_of, table_of}
 use Rattle.layouts.specs.Layout.{known_kind, kind_of, Stored, layout}
 use Rattle.layouts.specs.Records.{Written, unwritten, written_at}
 use Rattle.answers.specs.Views.{size}
 use Rattle.executions.specs.declared.Day.{Day}
-use Rattle.executions.specs.declared.Opening.{Opening}
-use Rattle.executions.specs.declared.Opening.TheVariants as G
 use Rattle.executions.specs.declared.Begun.{Begun}
 use Rattle.executions.specs.declared.Event.{Event}
 use Rattle.executions.specs.declared.Happened.{Happened}
@@ -44,15 +41,15 @@ unfoldable pub starting : Kind → List ℕ → Day
 starting k s = record { kind = k; count = length s; serials = s ++ replicate (128 - length s) 0; stopped = packed nothing; rows = no_rows }
 
 -- a refused opening gives a day of no places
-unfoldable pub unbegun : ℕ → Begun
-unbegun j = record { answer = G.Refused j; day = starting Full [] }
+unfoldable pub unbegun : Refusal → Begun
+unbegun j = record { answer = Err j; day = starting Full [] }
 
-unfoldable pub begun_as : Kind → List ℕ → Listed → Begun
-begun_as k s L.Sound = record { answer = G.Opened; day = starting k s }
-begun_as k s (L.Refused j) = unbegun j
+unfoldable pub begun_as : Kind → List ℕ → Result (Unit {0}) Refusal → Begun
+begun_as k s (Ok u) = record { answer = Ok u; day = starting k s }
+begun_as k s (Err j) = unbegun j
 
 unfoldable pub begun : ℕ → List ℕ → Begun
-begun kind s = cond (known_kind kind) (begun_as (kind_of kind) s (listed s)) (unbegun 2)
+begun kind s = cond (known_kind kind) (begun_as (kind_of kind) s (listed s)) (unbegun R.UnknownKind)
 
 -- ---- one event: 12, 14, or the day after it
 
@@ -72,11 +69,12 @@ hearing d p q = record {
 unfoldable pub day_after : Day → Event → Day
 day_after d e = cond (eqb e.kind 1) (stopping d e.place.0) (hearing d e.place.0 e.other.0)
 
+unfoldable pub happened_as : Day → Event → Result (Unit {0}) Refusal → Happened
+happened_as d e (Ok u) = record { answer = Ok u; day = day_after d e }
+happened_as d e (Err j) = record { answer = Err j; day = d }
+
 unfoldable pub happened : Day → Event → Happened
-happened d e =
-    cond (eqb (fault (size_of d) (execution_of d) e) 0)
-    (record { refusal = 0; day = day_after d e })
-    (record { refusal = fault (size_of d) (execution_of d) e; day = d })
+happened d e = happened_as d e (fault (size_of d) (execution_of d) e)
 
 -- ---- a list of events, played up to the first refusal
 
@@ -84,19 +82,27 @@ happened d e =
 unfoldable pub one_more : ℕ → ℕ
 one_more n = cond (ltb n (2 ^ 64 - 1)) (n + 1) n
 
+unfoldable pub counted_as : ℕ → Day → Result (Unit {0}) Refusal → Played
+counted_as n d (Ok u) = record { count = one_more n; answer = Ok u; day = d }
+counted_as n d (Err j) = record { count = n; answer = Err j; day = d }
+
 unfoldable pub counted : ℕ → Happened → Played
-counted n h = cond (eqb h.refusal 0) (record { count = one_more n; refusal = 0; day = h.day }) (record { count = n; refusal = h.refusal; day = h.day })
+counted n h = counted_as n h.day h.answer
 
 -- one event after those played: after a refusal nothing more is played
+unfoldable pub stepped_as : Played → Event → Result (Unit {0}) Refusal → Played
+stepped_as p e (Ok u) = counted p.count (happened p.day e)
+stepped_as p e (Err j) = p
+
 unfoldable pub stepped : Played → Event → Played
-stepped p e = cond (eqb p.refusal 0) (counted p.count (happened p.day e)) p
+stepped p e = stepped_as p e p.answer
 
 unfoldable pub played_from : Played → List Event → Played
 played_from p [] = p
 played_from p (e ∷ es) = played_from (stepped p e) es
 
 unfoldable pub played : Day → List Event → Played
-played d es = played_from (record { count = 0; refusal = 0; day = d }) es
+played d es = played_from (record { count = 0; answer = Ok tt; day = d }) es
 
 -- ---- writing the record of one that has stopped: 12, 14, 13, or laid down from a position on
 
@@ -105,4 +111,4 @@ record_of d p = record { kind = d.kind; own = p; roster = roster_of d; mourned =
 
 unfoldable pub written_of : Day → ℕ → List ℕ → ℕ → Written
 written_of d p out at =
-    cond (ltb p (size_of d)) (cond ((execution_of d).stopped p) (written_at (layout (record_of d p)) out at) (unwritten 14 out)) (unwritten 12 out)
+    cond (ltb p (size_of d)) (cond ((execution_of d).stopped p) (written_at (layout (record_of d p)) out at) (unwritten R.NotAllowed out)) (unwritten R.OffRoster out)

@@ -3,6 +3,7 @@
 #![tactic(auto)]
 
 use histories::Kind;
+use refusals::Refusal;
 use rows::Rows;
 use sets::{Place, PlaceSet};
 
@@ -17,16 +18,10 @@ pub struct Day {
     pub rows: Rows,
 }
 
-#[derive(Clone, Copy)]
-pub enum Opening {
-    Opened,
-    Refused(u8),
-}
-
 // What opening gives: where it is refused, the day has no places.
 #[derive(Clone, Copy)]
 pub struct Begun {
-    pub answer: Opening,
+    pub answer: Result<(), Refusal>,
     pub day: Day,
 }
 
@@ -38,17 +33,17 @@ pub struct Event {
     pub other: Place,
 }
 
-// What one event gives: its refusal, or 0, and the day after it.
+// What one event gives: whether it happened or its refusal, and the day after it.
 #[derive(Clone, Copy)]
 pub struct Happened {
-    pub refusal: u8,
+    pub answer: Result<(), Refusal>,
     pub day: Day,
 }
 
-// What a list of events gives: how many were played, the refusal that ended the play, or 0, and the day after those played.
+// What a list of events gives: how many were played, whether all were or the refusal that ended the play, and the day after those played.
 #[derive(Clone, Copy)]
 pub struct Played {
     pub count: usize,
-    pub refusal: u8,
+    pub answer: Result<(), Refusal>,
     pub day: Day,
 }

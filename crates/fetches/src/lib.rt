@@ -9,7 +9,7 @@ ghost use Rattle.answers.specs.Fetches.{blocking_by, fetching_by};
 
 use answers::Fetching;
 use rows::Rows;
-use sets::{Found, PlaceSet};
+use sets::PlaceSet;
 
 // The places that block some unmourned place. No more are looked for once all that are missing are among them.
 fn blocking(
@@ -23,20 +23,16 @@ fn blocking(
     ensures { has result ≡ blocking_by (size count) (accepted_in count (has returned) (has full) rows.now) (has mourned) (has earlier) }
 {
     let missing = standings::unheard(returned, earlier, count);
-    let mut unasked = standings::unmourned(mourned, count);
+    let unasked = standings::unmourned(mourned, count);
     let mut known = places::empty();
-    loop {
+    for p in places::members(unasked) {
         if places::is_subset(missing, known) {
             return known;
         }
-        let found = places::lowest(unasked);
-        let Found::At(p) = found else {
-            return known;
-        };
         let own = blocking::blockers(rows, returned, full, mourned, earlier, count, p);
         known = places::union(known, own);
-        unasked = places::without(unasked, p);
     }
+    known
 }
 
 // How many fetches surely suffice, and the place to fetch next; or that nothing is open.
@@ -47,13 +43,13 @@ pub fn to_fetch(
     mourned: PlaceSet,
     earlier: PlaceSet,
     count: usize,
-) -> Fetching
+) -> Option<Fetching>
     ensures { result ≡ fetching_by (size count) (accepted_in count (has returned) (has full) rows.now) (has mourned) (has earlier) }
 {
     let known = blocking(rows, returned, full, mourned, earlier, count);
-    let found = places::lowest(known);
-    let Found::At(next) = found else {
-        return Fetching::Settled;
-    };
-    Fetching::Needs(places::count(known), next)
+    let next = places::lowest(known)?;
+    Some(Fetching {
+        number: places::count(known),
+        next,
+    })
 }

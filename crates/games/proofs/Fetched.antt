@@ -1,4 +1,6 @@
 -- Document 02, [6], proved: the number of fetches that is told is enough, whatever is handed over, and no smaller one is. Assumes nothing.
+use Rattle.refusals.specs.declared.Refusal.{Refusal}
+use Rattle.std.specs.Prelude.{Option, Some, None, Result, Ok, Err}
 use mathlib.Core.Path.{◌≡◌, refl, sym, ap, ◌∙◌, subst}
 use mathlib.Core.Bool.{true, false, not}
 use mathlib.Core.Logic.{◌⊎◌, inl, inr}
@@ -17,7 +19,6 @@ use Rattle.histories.specs.declared.Kind.TheVariants.{Full}
 use Rattle.histories.specs.Histories.{Row, Accepted, lay}
 use Rattle.histories.proofs.Fewer.{Within, within_trans}
 use Rattle.answers.specs.Fetches.{blocking, told}
-use Rattle.answers.specs.declared.Fetching.TheVariants.{Settled, Needs}
 use Rattle.answers.proofs.Fetches.{settled_told}
 use Rattle.answers.proofs.Gathering.{blocking_absent}
 use Rattle.answers.proofs.Records.{fewer_block, back_blocks_none, empty_fits, empty_takes_off}
@@ -52,11 +53,11 @@ module _ (r : Recovery) where
   unfolding blocking_of
   blocks_absent = blocking_absent (size_of r) (accepted_of r) _ _
 
-  pub some_blocks : any (size_of r) (blocking_of r) ≡ true → (settled_of r ≡ false) × (fetching_of r ≡ Needs (count (size_of r) (blocking_of r)) (record { 0 = lowest (size_of r) (blocking_of r) }))
+  pub some_blocks : any (size_of r) (blocking_of r) ≡ true → (settled_of r ≡ false) × (fetching_of r ≡ Some (record { number = count (size_of r) (blocking_of r); next = record { 0 = lowest (size_of r) (blocking_of r) } }))
   unfolding fetching_of told
   some_blocks e = (settled_is ∙ ap not e, rw e)
 
-  pub none_blocks : any (size_of r) (blocking_of r) ≡ false → (settled_of r ≡ true) × (fetching_of r ≡ Settled) × (count (size_of r) (blocking_of r) ≡ 0)
+  pub none_blocks : any (size_of r) (blocking_of r) ≡ false → (settled_of r ≡ true) × (fetching_of r ≡ None) × (count (size_of r) (blocking_of r) ≡ 0)
   unfolding fetching_of told
   none_blocks e = (settled_is ∙ ap not e, rw e, count_same (size_of r) (blocking_of r) nothing (any_none (size_of r) (blocking_of r) e) ∙ count_nothing (size_of r))
 
@@ -69,11 +70,11 @@ module _ (r : Recovery) where
       go (inl e) = ap number (some_blocks e).1
       go (inr e) = let w = none_blocks e in ap number w.1 ∙ sym w.2
 
-taken_said : (a : Reply) → says (offer_says a) ≡ says D.taken → a ≡ O.Taken
+taken_said : (a : Result Reply Refusal) → says (offer_says a) ≡ says D.taken → a ≡ Ok O.Taken
 unfolding offer_says
-taken_said O.Taken e = refl
-taken_said O.Repeated e = let z : ◌≡◌ {A = ℕ} 0 1 = cc in absurd (omega arith)
-taken_said (O.Refused j) e = let z : ◌≡◌ {A = ℕ} 0 1 = cc in absurd (omega arith)
+taken_said (Ok O.Taken) e = refl
+taken_said (Ok O.Repeated) e = let z : ◌≡◌ {A = ℕ} 0 1 = cc in absurd (omega arith)
+taken_said (Err j) e = let z : ◌≡◌ {A = ℕ} 0 1 = cc in absurd (omega arith)
 
 -- ---- one fetch
 
@@ -139,7 +140,7 @@ module _ {roster : List ℕ} {r : Recovery} (g : Good roster r) where
         (takes empty_of_group absent.1 (empty_fits (accepted_of r) p k absent.1 g.fits)) tt tt
 
     -- an empty record is never refused
-    pub empty_taken : (offered r (empty_record r p k)).answer ≡ O.Taken
+    pub empty_taken : (offered r (empty_record r p k)).answer ≡ Ok O.Taken
     empty_taken = taken_said (offered r (empty_record r p k)).answer taken_lays.0
 
     pub empty_handed : HandedOver r p (empty_record r p k)

@@ -1,4 +1,7 @@
 -- The game played out lasts just as many fetches as are told; and the hill has every record that may be handed over. Assumes nothing.
+use Rattle.refusals.specs.declared.Refusal.{Refusal}
+use Rattle.refusals.specs.declared.Refusal.TheVariants as R
+use Rattle.std.specs.Prelude.{Option, Some, None, Result, Ok, Err}
 use mathlib.Core.Path.{◌≡◌, refl, sym, ap, ap₂, ◌∙◌, subst, fun_ext}
 use mathlib.Core.Bool.{Bool, true, false, cond}
 use mathlib.Core.Logic.{◌⊎◌, inl, inr}
@@ -29,7 +32,6 @@ use Rattle.calls.proofs.Facts.{lone_on}
 use Rattle.calls.proofs.Demand.{Good, is_roster, is_size, is_alias, good_left}
 use Rattle.calls.proofs.Single.{same_record}
 use Rattle.calls.proofs.Later.{offered_good, offered_enters}
-use Rattle.games.specs.declared.Played.TheVariants as P
 use Rattle.games.specs.Fetched.{number, Absent, HandedOver, empty_record}
 use Rattle.games.specs.Games.{absent_of, absent_count, least, greatest, kind_numbered, record_numbered, record_count, handed, is_taken, lasting, hills_turn, crews_turn, fetches_from, played}
 use Rattle.games.specs.Choices.{IsLeast, IsGreatest}
@@ -49,13 +51,13 @@ absent_intro : (r : Recovery) (p : ℕ) → Absent r p → absent_of r p ≡ tru
 unfolding absent_of
 absent_intro r p a = minus_intro (lt-ltb p (size_of r) a.0) a.1
 
-taken_is : (a : Reply) → is_taken a ≡ true → a ≡ O.Taken
+taken_is : (a : Result Reply Refusal) → is_taken a ≡ true → a ≡ Ok O.Taken
 unfolding is_taken
-taken_is O.Taken e = refl
-taken_is O.Repeated e = clash e refl
-taken_is (O.Refused j) e = clash e refl
+taken_is (Ok O.Taken) e = refl
+taken_is (Ok O.Repeated) e = clash e refl
+taken_is (Err j) e = clash e refl
 
-is_taken_lem : (a : Reply) → a ≡ O.Taken → is_taken a ≡ true
+is_taken_lem : (a : Result Reply Refusal) → a ≡ Ok O.Taken → is_taken a ≡ true
 unfolding is_taken
 is_taken_lem a e = rw e
 
@@ -215,13 +217,13 @@ module _ {roster : List ℕ} {r : Recovery} (g : Good roster r) {p : ℕ} {bytes
 
 module _ {roster : List ℕ} (f : Free roster) (cs : List Call) where
   -- after any calls, on a roster of at most four: the game played out lasts as many fetches as are told
-  pub played_as_told : length roster ≤ 4 → played (reached roster cs) ≡ P.Fetches (number (fetching_of (reached roster cs)))
+  pub played_as_told : length roster ≤ 4 → played (reached roster cs) ≡ Ok (number (fetching_of (reached roster cs)))
   played_as_told few =
       let r : Recovery = reached roster cs in
       sym (played_small r (rw (is_size (good_left f cs)) few) (number (fetching_of r)) (number_is r ∙ sym (crew_is (absent_count r) r (good_left f cs) refl)))
 
   -- and on a larger one it is refused
-  pub played_17 : 4 < length roster → played (reached roster cs) ≡ P.Refused 17
+  pub played_17 : 4 < length roster → played (reached roster cs) ≡ Err R.TooMany
   played_17 many = sym (played_large (reached roster cs) (rw (is_size (good_left f cs)) many))
 
   -- whatever a fetch may hand over, the hill has a record that does just the same

@@ -1,5 +1,7 @@
 -- The two turns of a game: what a record that is taken leaves, how long a game can last, and one law for each way in which a turn
 -- returns. Assumes nothing.
+use Rattle.refusals.specs.declared.Refusal.{Refusal}
+use Rattle.refusals.specs.declared.Refusal.TheVariants as R
 use mathlib.Core.Path.{◌≡◌, refl, sym, ap, ◌∙◌}
 use mathlib.Core.Bool.{Bool, true, false, not, cond, ◌&&◌, ◌||◌, or-true, or-false}
 use mathlib.Core.List.{List}
@@ -10,14 +12,14 @@ use lib.Dec.{eqb, ltb}
 use lib.ListN.{length, length-take}
 use lib.Pow.{shl_exact}
 use borrow.Author.Tests.{ltb-true, lt-ltb, ne_eqb, le-leb, lt-leb}
-use Rattle.sets.specs.Sets.{Places, nothing, with, without, same, count, lowest}
-use Rattle.sets.specs.PlaceSets.{has, packed, found}
+use Rattle.sets.specs.Sets.{Places, nothing, with, without, same, count}
+use Rattle.sets.specs.PlaceSets.{has, packed}
 use Rattle.sets.specs.declared.Place.{Place}
 use Rattle.sets.specs.declared.PlaceSet.{PlaceSet}
-use Rattle.sets.specs.declared.Found.TheVariants.{At, Nothing}
+use Rattle.std.specs.Prelude.{Option, Some, None, Result, Ok, Err}
 use Rattle.sets.proofs.Booleans.{clash, minus_elim, minus_intro, eqb_self}
 use Rattle.sets.proofs.Counting.{count_same, count_nothing, count_at_most, count_one_more, count_without}
-use Rattle.sets.proofs.Laws.{has_packed, kept_with, lowest_found, lowest_nothing, without_count}
+use Rattle.sets.proofs.Laws.{has_packed, kept_with}
 use Rattle.histories.specs.declared.Kind.{Kind}
 use Rattle.histories.specs.declared.Kind.TheVariants.{Full, Short}
 use Rattle.histories.specs.Histories.{Row}
@@ -34,7 +36,6 @@ use Rattle.calls.proofs.Facts.{lone_on}
 use Rattle.calls.proofs.Calls.{group_elim, entered_again, entered_new}
 use Rattle.calls.proofs.Keeps.{size_few}
 use Rattle.games.specs.Games.{absent_of, absent_count, least, greatest, record_numbered, record_count, handed, is_taken, lasting, hills_turn, crews_turn, fetches_from, played}
-use Rattle.games.specs.declared.Played.TheVariants as P
 use Rattle.games.proofs.Least.{least_bound, Looking, looking_first, looking_next, looking_done, greatest_next, greatest_stays, greatest_bound}
 
 -- ---- the absent places
@@ -60,17 +61,17 @@ unfolding size_of keeping keeping_full keeping_row
 keeping_size r p Full M = refl
 keeping_size r p Short M = refl
 
-answered_size : (r : Recovery) (p : ℕ) (k : Kind) (M : Row) (a : Reply) → size_of (answered r p k M a).recovery ≡ size_of r
+answered_size : (r : Recovery) (p : ℕ) (k : Kind) (M : Row) (a : Result Reply Refusal) → size_of (answered r p k M a).recovery ≡ size_of r
 unfolding answered saying
-answered_size r p k M O.Taken = keeping_size r p k M
-answered_size r p k M O.Repeated = refl
-answered_size r p k M (O.Refused j) = refl
+answered_size r p k M (Ok O.Taken) = keeping_size r p k M
+answered_size r p k M (Ok O.Repeated) = refl
+answered_size r p k M (Err j) = refl
 
 pub offered_size : (r : Recovery) (bytes : List ℕ) → size_of (offered r bytes).recovery ≡ size_of r
 unfolding offered offered_as judged entered saying
 offered_size r bytes = go (lone (alias_of r) bytes)
   where
-    own : (x : Stored) (t : Bool) → size_of (cond t (entered r x.own x.kind x.mourned) (saying r (O.Refused 9))).recovery ≡ size_of r
+    own : (x : Stored) (t : Bool) → size_of (cond t (entered r x.own x.kind x.mourned) (saying r (Err R.OtherGroup))).recovery ≡ size_of r
     own x true = answered_size r x.own x.kind x.mourned (entering r.count (has r.returned) (has r.full) r.rows x.own x.kind x.mourned)
     own x false = refl
 
@@ -91,12 +92,12 @@ entered_joins : (r : Recovery) (p : ℕ) (k : Kind) (M : Row) → p < size_of r 
 unfolding is_taken saying
 entered_joins r p k M on t = go ((accepted_of r).returned p) refl
   where
-    again : (b : Bool) → is_taken (saying r (cond b O.Repeated (O.Refused 10))).answer ≡ false
+    again : (b : Bool) → is_taken (saying r (cond b (Ok O.Repeated) (Err R.OtherRecord))).answer ≡ false
     again true = refl
     again false = refl
 
-    taken : (b : Bool) → is_taken (cond b (record { answer = O.Taken; recovery = keeping r p k M }) (saying r (O.Refused 11))).answer ≡ true
-        → (cond b (record { answer = O.Taken; recovery = keeping r p k M }) (saying r (O.Refused 11))).recovery ≡ keeping r p k M
+    taken : (b : Bool) → is_taken (cond b (record { answer = Ok O.Taken; recovery = keeping r p k M }) (saying r (Err R.NoHistory))).answer ≡ true
+        → (cond b (record { answer = Ok O.Taken; recovery = keeping r p k M }) (saying r (Err R.NoHistory))).recovery ≡ keeping r p k M
     taken true e = refl
     taken false e = clash e refl
 
@@ -121,8 +122,8 @@ unfolding offered offered_as judged saying is_taken roster_of
 offered_joins r bytes t = go (lone (alias_of r) bytes) refl t
   where
     own : (x : Stored) → x.own < length x.roster → (b : Bool) → of_group r x ≡ b
-        → is_taken (cond b (entered r x.own x.kind x.mourned) (saying r (O.Refused 9))).answer ≡ true
-        → Joined r (cond b (entered r x.own x.kind x.mourned) (saying r (O.Refused 9))).recovery
+        → is_taken (cond b (entered r x.own x.kind x.mourned) (saying r (Err R.OtherGroup))).answer ≡ true
+        → Joined r (cond b (entered r x.own x.kind x.mourned) (saying r (Err R.OtherGroup))).recovery
     own x l true e t =
         entered_joins r x.own x.kind x.mourned (omega (arith, ap length (group_elim r x e), length-take (size_of r) r.serials)) t
     own x l false e t = clash t refl
@@ -205,10 +206,10 @@ turn_settled r e = go (absent_count r)
     go (suc k) = ap (λ (t : Bool). cond t 0 (suc (least (size_of r) (absent_of r) (hills_turn (crews_turn k) r)))) (sym e)
 
 -- nobody is absent
-pub turn_nobody : (r : Recovery) (all : PlaceSet) → has all ≡ absent_of r → size_of r ≤ 4 → found 128 (lowest 128 (has all)) ≡ Nothing → 0 ≡ crews_turn (absent_count r) r
+pub turn_nobody : (r : Recovery) (all : PlaceSet) → has all ≡ absent_of r → size_of r ≤ 4 → ((k : ℕ) → has all k ≡ false) → 0 ≡ crews_turn (absent_count r) r
 unfolding crews_turn absent_count
-turn_nobody r all is few e =
-    ap (λ (k : ℕ). crews_turn k r) (sym (count_same (size_of r) (absent_of r) nothing (λ k l. sym (ap (λ (S : Places). S k) is) ∙ lowest_nothing 128 (has all) e k (omega arith)) ∙ count_nothing (size_of r)))
+turn_nobody r all is few none =
+    ap (λ (k : ℕ). crews_turn k r) (sym (count_same (size_of r) (absent_of r) nothing (λ k _. sym (ap (λ (S : Places). S k) is) ∙ none k) ∙ count_nothing (size_of r)))
 
 turn_some : (k : ℕ) (r : Recovery) → 0 < k → settled_of r ≡ false → suc (least (size_of r) (absent_of r) (hills_turn (crews_turn (k - 1)) r)) ≡ crews_turn k r
 unfolding crews_turn
@@ -223,37 +224,31 @@ abbrev pub Choosing : Recovery → PlaceSet → ℕ → Type 0
 Choosing r left best = Looking (size_of r) (absent_of r) (fetched r) (has left) best
 
 -- the lowest absent place comes first
-module _ (r : Recovery) (all : PlaceSet) (is : has all ≡ absent_of r) (p : Place) (at : found 128 (lowest 128 (has all)) ≡ At p) where
+module _ (r : Recovery) (all : PlaceSet) (is : has all ≡ absent_of r) (p : Place) (here : has all p.0 ≡ true) where
   pub first_absent : absent_of r p.0 ≡ true
-  first_absent = sym (ap (λ (S : Places). S p.0) is) ∙ (lowest_found 128 (has all) p at).0
+  first_absent = sym (ap (λ (S : Places). S p.0) is) ∙ here
 
-  pub fetching_first : (left : PlaceSet) → has left ≡ without p.0 (has all) → (best : ℕ) → best ≡ fetched r p.0 → Choosing r left best
-  fetching_first left e best b =
+  pub fetching_first : ((j : ℕ) → j < p.0 → has all j ≡ false) → (left : PlaceSet) → has left ≡ without p.0 (has all) → (best : ℕ) → best ≡ fetched r p.0 → Choosing r left best
+  fetching_first lowest left e best b =
       looking_first (size_of r) (absent_of r) (fetched r) p.0 (absent_on r p.0 first_absent) first_absent
-      (λ j l. sym (ap (λ (S : Places). S j) is) ∙ (lowest_found 128 (has all) p at).2 j l)
+      (λ j l. sym (ap (λ (S : Places). S j) is) ∙ lowest j l)
       (has left) (e ∙ ap (without p.0) is) best b
 
 module _ (r : Recovery) (left : PlaceSet) (best : ℕ) (g : Choosing r left best) where
-  -- then the lowest that is left
-  module _ (p : Place) (at : found 128 (lowest 128 (has left)) ≡ At p) where
-    here : has left p.0 ≡ true
-    here = (lowest_found 128 (has left) p at).0
-
+  -- then one that is left
+  module _ (p : Place) (here : has left p.0 ≡ true) where
     pub next_absent : absent_of r p.0 ≡ true
     next_absent = g.listed p.0 here
-
-    pub fetching_less : (after : PlaceSet) → has after ≡ without p.0 (has left) → count 128 (has left) ≡ suc (count 128 (has after))
-    fetching_less after e = without_count left after p.0 here e
 
     pub fetching_next : (after : PlaceSet) → has after ≡ without p.0 (has left) → (x y : ℕ) → x ≡ fetched r p.0 → y ≡ min best x → Choosing r after y
     fetching_next after e x y b c =
         looking_next (size_of r) (absent_of r) (fetched r) (has left) best g p.0 (absent_on r p.0 next_absent) here (has after) e x y b c
 
   -- and with none left the turn is known, and a small number
-  module _ (few : size_of r ≤ 4) (some : 0 < absent_count r) (e : settled_of r ≡ false) (none : found 128 (lowest 128 (has left)) ≡ Nothing) where
+  module _ (few : size_of r ≤ 4) (some : 0 < absent_count r) (e : settled_of r ≡ false) (none : (k : ℕ) → has left k ≡ false) where
     pub turn_done : best + 1 ≡ crews_turn (absent_count r) r
     turn_done =
-        add-one best ∙ ap suc (sym (looking_done (size_of r) (absent_of r) (fetched r) (has left) best g (λ k l. lowest_nothing 128 (has left) none k (omega arith))))
+        add-one best ∙ ap suc (sym (looking_done (size_of r) (absent_of r) (fetched r) (has left) best g (λ k _. none k)))
         ∙ turn_some (absent_count r) r some e
 
     pub turn_small : best + 1 ≤ 4
@@ -301,10 +296,10 @@ module _ (r : Recovery) (p number : ℕ) (given : Offered) (is : given ≡ hande
 
 -- ---- the whole game
 
-pub played_large : (r : Recovery) → 4 < size_of r → P.Refused 17 ≡ played r
+pub played_large : (r : Recovery) → 4 < size_of r → Err R.TooMany ≡ played r
 unfolding played fetches_from
 played_large r l = rw (lt-leb (size_of r) 4 l)
 
-pub played_small : (r : Recovery) → size_of r ≤ 4 → (n : ℕ) → n ≡ crews_turn (absent_count r) r → P.Fetches n ≡ played r
+pub played_small : (r : Recovery) → size_of r ≤ 4 → (n : ℕ) → n ≡ crews_turn (absent_count r) r → Ok n ≡ played r
 unfolding played fetches_from
 played_small r l n e = rw (le-leb (size_of r) 4 l, e)

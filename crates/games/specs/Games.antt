@@ -1,5 +1,8 @@
 -- The game of document 02, [6], played out on a recovery: a crew fetches an absent place, the hill hands over a record of it that is not
 -- refused, and so on until the whole is settled. Assumes nothing.
+use Rattle.refusals.specs.declared.Refusal.{Refusal}
+use Rattle.refusals.specs.declared.Refusal.TheVariants as R
+use Rattle.std.specs.Prelude.{Option, Some, None, Result, Ok, Err}
 use Rattle.std.specs.Prelude.{Bool, true, false, cond, ℕ, zero, suc, ◌*◌, ◌/◌, ◌%◌, ◌^◌, min, max, eqb, leb}
 use Rattle.sets.specs.Sets.{Places, below, difference, count, lowest}
 use Rattle.sets.specs.PlaceSets.{bit}
@@ -12,8 +15,6 @@ use Rattle.answers.specs.declared.Reply.TheVariants as O
 use Rattle.calls.specs.declared.Recovery.{Recovery}
 use Rattle.calls.specs.declared.Offered.{Offered}
 use Rattle.calls.specs.Promises.{size_of, roster_of, accepted_of, offered, settled_of}
-use Rattle.games.specs.declared.Played.{Played}
-use Rattle.games.specs.declared.Played.TheVariants as P
 
 -- the absent places
 unfoldable pub absent_of : Recovery → Row
@@ -57,10 +58,10 @@ handed r p j = offered r (layout (record_numbered r p j))
 
 -- ---- the two turns
 
-unfoldable pub is_taken : Reply → Bool
-is_taken O.Taken = true
-is_taken O.Repeated = false
-is_taken (O.Refused j) = false
+unfoldable pub is_taken : Result Reply Refusal → Bool
+is_taken (Ok O.Taken) = true
+is_taken (Ok O.Repeated) = false
+is_taken (Err j) = false
 
 -- how long the rest of the game lasts after a record, where `turn` says how long it lasts from the crew's next turn on: a refused record is
 -- not handed over
@@ -82,5 +83,5 @@ unfoldable pub fetches_from : Recovery → ℕ
 fetches_from r = crews_turn (absent_count r) r
 
 -- the game from r on: 17 for a roster of more than four
-unfoldable pub played : Recovery → Played
-played r = cond (leb (size_of r) 4) (P.Fetches (crews_turn (absent_count r) r)) (P.Refused 17)
+unfoldable pub played : Recovery → Result ℕ Refusal
+played r = cond (leb (size_of r) 4) (Ok (crews_turn (absent_count r) r)) (Err R.TooMany)

@@ -6,8 +6,8 @@ ghost use Rattle.std.specs.Prelude.{◌≡◌, not, eqb, length, get_or};
 ghost use Rattle.layouts.specs.Records.{reading_lone};
 ghost use Rattle.answers.specs.Groups.{roster_length, alias_in, found_among, is_found, giving};
 
-use answers::Giving;
-use layouts::Reading;
+use layouts::Record;
+use refusals::Refusal;
 use serials::{Finding, Serial};
 use sets::Place;
 
@@ -23,7 +23,12 @@ pub fn roster_length(count: usize, serials: &[u32]) -> usize
 }
 
 // The place of a serial, as the first or as the second serial of it.
-pub fn find<'a>(count: usize, serials: &'a [u32], seconds: &'a [u32], serial: Serial) -> Finding
+pub fn find<'a>(
+    count: usize,
+    serials: &'a [u32],
+    seconds: &'a [u32],
+    serial: Serial,
+) -> Option<Finding>
     ensures { result ≡ found_among count serials.now seconds.now serial.0 }
 {
     let n = roster_length(count, serials);
@@ -32,7 +37,12 @@ pub fn find<'a>(count: usize, serials: &'a [u32], seconds: &'a [u32], serial: Se
 }
 
 // Reads a lone record, whose own and mourned serials may be second ones of this group.
-pub fn read_lone<'a>(count: usize, serials: &'a [u32], seconds: &'a [u32], bytes: &[u8]) -> Reading
+pub fn read_lone<'a>(
+    count: usize,
+    serials: &'a [u32],
+    seconds: &'a [u32],
+    bytes: &[u8],
+) -> Result<Record, Refusal>
     ensures { result ≡ reading_lone (alias_in count serials.now seconds.now) bytes.now }
 {
     let n = roster_length(count, serials);
@@ -44,11 +54,7 @@ pub fn read_lone<'a>(count: usize, serials: &'a [u32], seconds: &'a [u32], bytes
 fn is_known<'a>(count: usize, serials: &'a [u32], seconds: &'a [u32], serial: Serial) -> bool
     ensures { result ≡ is_found (found_among count serials.now seconds.now serial.0) }
 {
-    match find(count, serials, seconds, serial) {
-        Finding::First(_) => true,
-        Finding::Second(_) => true,
-        Finding::Nothing => false,
-    }
+    find(count, serials, seconds, serial).is_some()
 }
 
 // Whether a place has a second serial.
@@ -69,21 +75,21 @@ pub fn may_give<'a>(
     seconds: &'a [u32],
     place: Place,
     serial: Serial,
-) -> Giving
+) -> Result<(), Refusal>
     ensures { result ≡ giving count serials.now seconds.now place.0 serial.0 }
 {
     let n = standings::size(count);
     if n <= place.0 {
-        return Giving::Refused(12);
+        return Err(Refusal::OffRoster);
     }
     if serial.0 == 0 {
-        return Giving::Refused(4);
+        return Err(Refusal::ZeroSerial);
     }
     if is_known(count, serials, seconds, serial) {
-        return Giving::Refused(16);
+        return Err(Refusal::KnownSerial);
     }
     if has_second(seconds, place) {
-        return Giving::Refused(16);
+        return Err(Refusal::KnownSerial);
     }
-    Giving::Given
+    Ok(())
 }

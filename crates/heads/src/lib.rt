@@ -1,28 +1,34 @@
 // A stored record as far as its roster's end: kind, own serial, roster. The ticket desk sees no more.
 #![tactic(auto)]
 
-ghost use Rattle.std.specs.Prelude.{◌≡◌, ◌≤◌, ℕ, ◌+◌, ◌*◌, ◌<◌, length, take, drop};
+ghost use Rattle.std.specs.Prelude.{◌≡◌, ◌≤◌, ℕ, ◌+◌, ◌*◌, ◌<◌, length, take, drop, OnOk};
 ghost use Rattle.sets.specs.PlaceSets.{found};
 ghost use Rattle.serials.specs.Rosters.{place_from};
 ghost use Rattle.serials.specs.Seconds.{counts_as, stands_for};
-ghost use Rattle.layouts.specs.Parts.{head_on, roster_after, own_after, owner_of, OwnerIn, head_of, HeadIn};
+ghost use Rattle.layouts.specs.Parts.{head_on, roster_after, own_after, owner_of, head_of, HeadIn};
 ghost use Rattle.layouts.specs.Layout.{head_section};
 ghost use Rattle.layouts.specs.Records.{serials};
 ghost use Rattle.layouts.specs.Desk.{shown_to_desk, lies_of};
 
 use histories::Kind;
-use layouts::{Heading, Owner, Sight, Top};
+use layouts::{Sight, Top};
+use refusals::Refusal;
 use serials::{Finding, Serial};
-use sets::Found;
+use sets::Place;
 
 // The place of an own or a mourned serial on a record's roster, looked for from a place on first: as a first serial or as a second one.
-pub fn locate(roster: &[u32], from: usize, firsts: &[u32], seconds: &[u32], serial: Serial) -> Found
+pub fn locate(
+    roster: &[u32],
+    from: usize,
+    firsts: &[u32],
+    seconds: &[u32],
+    serial: Serial,
+) -> Option<Place>
     ensures { result ≡ found (length roster.now) (place_from from (stands_for (counts_as firsts.now seconds.now) roster.now serial.0) roster.now) }
 {
-    match lookups::look_up(roster, from, firsts, seconds, serial) {
-        Finding::First(place) => Found::At(place),
-        Finding::Second(place) => Found::At(place),
-        Finding::Nothing => Found::Nothing,
+    match lookups::look_up(roster, from, firsts, seconds, serial)? {
+        Finding::First(place) => Some(place),
+        Finding::Second(place) => Some(place),
     }
 }
 
@@ -34,13 +40,13 @@ pub fn on_roster(
     list: &[u32],
     firsts: &[u32],
     seconds: &[u32],
-) -> Heading
+) -> Result<Top, Refusal>
     ensures { result ≡ head_on (counts_as firsts.now seconds.now) kind own.0 roster (length list.now) list.now }
 {
-    let Found::At(place) = locate(list, 0, firsts, seconds, own) else {
-        return Heading::Refused(6);
+    let Some(place) = locate(list, 0, firsts, seconds, own) else {
+        return Err(Refusal::NotOnRoster);
     };
-    Heading::Found(Top {
+    Ok(Top {
         kind,
         own,
         place,
@@ -58,7 +64,7 @@ fn on_first(
     n: usize,
     firsts: &[u32],
     seconds: &[u32],
-) -> Heading
+) -> Result<Top, Refusal>
     requires { n ≤ length list.now }
     ensures { result ≡ head_on (counts_as firsts.now seconds.now) kind own.0 roster n (take n list.now) }
 {
@@ -74,46 +80,36 @@ fn head_roster(
     list: &mut [u32; 128],
     firsts: &[u32],
     seconds: &[u32],
-) -> Heading
+) -> Result<Top, Refusal>
     ensures bytes_value { roster_after (counts_as firsts.now seconds.now) kind own.0 (drop at bytes.now) ≡ head_of result bytes.now list.new }
     ensures head_in { HeadIn result bytes.now (at + 1) list.new }
 {
-    let got = roster_bytes::read_roster(bytes, at, list);
-    let fault = got.fault;
-    if fault != 0 {
-        return Heading::Refused(fault);
-    }
-    let n = got.count;
+    let n = roster_bytes::read_roster(bytes, at, list)?;
     on_first(kind, own, at + 1, list, n, firsts, seconds)
 }
 
 // The own serial at a position, of a record whose kind is known.
-fn read_own(bytes: &[u8], at: usize, kind: Kind) -> Owner
+fn read_own(bytes: &[u8], at: usize, kind: Kind) -> Result<Sight, Refusal>
     ensures by_index { (alias : ℕ → ℕ) → own_after alias kind (drop at bytes.now) ≡ owner_of alias result (drop (at + 4) bytes.now) }
-    ensures owner_in { OwnerIn result (at + 4) (length bytes.now) }
+    ensures owner_in { OnOk result (at + 4 ≤ length bytes.now) }
 {
-    let got = roster_bytes::read_serial(bytes, at);
-    let fault = got.fault;
-    if fault != 0 {
-        return Owner::Refused(fault);
-    }
-    let own = got.serial;
-    Owner::Of(kind, own)
+    let own = roster_bytes::read_serial(bytes, at)?;
+    Ok(Sight { kind, own })
 }
 
 // The kind and the own serial of the record that starts at a position: its first five bytes.
-pub fn read_owner(bytes: &[u8], at: usize) -> Owner
+pub fn read_owner(bytes: &[u8], at: usize) -> Result<Sight, Refusal>
     ensures by_index { (alias : ℕ → ℕ) → head_section alias (drop at bytes.now) ≡ owner_of alias result (drop (at + 5) bytes.now) }
-    ensures owner_in { OwnerIn result (at + 5) (length bytes.now) }
+    ensures owner_in { OnOk result (at + 5 ≤ length bytes.now) }
 {
     if bytes.len() <= at {
-        return Owner::Refused(1);
+        return Err(Refusal::EndsEarly);
     }
     let kind = bytes[at];
     match kind {
         1 => read_own(bytes, at + 1, Kind::Full),
         2 => read_own(bytes, at + 1, Kind::Short),
-        0 | 3..=255 => Owner::Refused(2),
+        0 | 3..=255 => Err(Refusal::UnknownKind),
     }
 }
 
@@ -124,14 +120,12 @@ pub fn read_head(
     list: &mut [u32; 128],
     firsts: &[u32],
     seconds: &[u32],
-) -> Heading
+) -> Result<Top, Refusal>
     ensures bytes_value { head_section (counts_as firsts.now seconds.now) (drop at bytes.now) ≡ head_of result bytes.now list.new }
     ensures head_in { HeadIn result bytes.now (at + 6) list.new }
 {
-    match read_owner(bytes, at) {
-        Owner::Refused(fault) => Heading::Refused(fault),
-        Owner::Of(kind, own) => head_roster(bytes, at + 5, kind, own, list, firsts, seconds),
-    }
+    let owner = read_owner(bytes, at)?;
+    head_roster(bytes, at + 5, owner.kind, owner.own, list, firsts, seconds)
 }
 
 // Reads a lone record for the ticket desk, as far as its roster's end. The roster's serials are handed back as a part of the bytes;
@@ -141,21 +135,18 @@ pub fn read_desk<'a>(
     firsts: &[u32],
     seconds: &[u32],
     roster: &mut &'a [u8],
-) -> Sight
+) -> Result<Sight, Refusal>
     ensures value { result ≡ (shown_to_desk (counts_as firsts.now seconds.now) bytes.now roster.old.now).answer }
     ensures roster_after { roster.new.now ≡ (shown_to_desk (counts_as firsts.now seconds.now) bytes.now roster.old.now).roster }
     ensures ptr_after { roster.new.ref_ptr ≡ lies_of result bytes.entry.ref_ptr roster.old.ref_ptr }
 {
     let mut list = [0u32; 128];
-    match read_head(bytes, 0, &mut list, firsts, seconds) {
-        Heading::Refused(fault) => Sight::Refused(fault),
-        Heading::Found(top) => {
-            let kind = top.kind;
-            let own = top.own;
-            let start = top.roster;
-            let end = start + top.count * 4;
-            *roster = &bytes[start..end];
-            Sight::Seen(kind, own)
-        }
-    }
+    let top = read_head(bytes, 0, &mut list, firsts, seconds)?;
+    let start = top.roster;
+    let end = start + top.count * 4;
+    *roster = &bytes[start..end];
+    Ok(Sight {
+        kind: top.kind,
+        own: top.own,
+    })
 }

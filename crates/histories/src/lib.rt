@@ -4,8 +4,8 @@
 // heard itself (short).
 #![tactic(auto)]
 
-#[derive(Clone, Copy)]
+#[derive(Clone, Copy, Debug, PartialEq, Eq)]
 pub enum Kind {
-    Full,
-    Short,
+    Full = 1,
+    Short = 2,
 }

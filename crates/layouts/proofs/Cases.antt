@@ -2,6 +2,7 @@
 use mathlib.Core.Path.{◌≡◌, refl}
 use mathlib.Core.List.{map}
 use Prim.Native.Nat.{ℕ}
+use Rattle.refusals.specs.Numbers.{number}
 use Rattle.serials.specs.Rosters.{place_of, holds}
 use Rattle.serials.specs.Seconds.{itself, stands_for}
 use Rattle.layouts.specs.Layout as L
@@ -11,7 +12,7 @@ use Rattle.layouts.specs.FaultCases.{Faulty, bytes_of, number_of, head, mourning
 -- the refusal, 0 for none
 unfoldable pub fault_of : Parsed Stored → ℕ
 fault_of (got x s) = 0
-fault_of (refused j) = j
+fault_of (refused j) = number j
 
 unfoldable pub meets_of : Faulty → ℕ
 meets_of x = fault_of (lone itself (bytes_of x))

@@ -1,4 +1,8 @@
 -- What the ticket desk may see, and what it may not (document 02, [5]): theorems over every list of bytes. Assumes nothing.
+use Rattle.refusals.specs.declared.Refusal.{Refusal}
+use Rattle.refusals.specs.Numbers.{number}
+use Rattle.refusals.specs.declared.Refusal.TheVariants as R
+use Rattle.std.specs.Prelude.{Result, Ok, Err}
 use mathlib.Core.Path.{◌≡◌, refl, sym, ap, ap₂, ◌∙◌}
 use mathlib.Core.Bool.{not}
 use mathlib.Core.List.{List, [], ◌∷◌, ◌++◌}
@@ -13,8 +17,6 @@ use Rattle.sets.specs.Sets.{Places, nothing, with}
 use Rattle.sets.specs.PlaceSets.{packed}
 use Rattle.serials.specs.Rosters.{holds}
 use Rattle.layouts.specs.declared.Record.{Record}
-use Rattle.layouts.specs.declared.Reading.TheVariants as R
-use Rattle.layouts.specs.declared.Sight.TheVariants as S
 use Rattle.serials.specs.declared.Serial.{Serial}
 use Rattle.histories.specs.declared.Kind.{Kind}
 use Rattle.layouts.specs.Layout.{Parsed, got, refused, then, check, byte, word_at, serial, known_kind, kind_section, roster_serials, roster_section, is_on, place_on, Head, head_section, mourned_serials, mourned_section, Stored, stored, lone, kind_byte, serial_bytes, serials_bytes}
@@ -32,18 +34,18 @@ unfolding roster_serials
 serials_onto zero seen s more h = refl
 serials_onto (suc n) seen s more h =
     then_onto more (serial (s ++ more)) (serial s) _ (serial_onto s more (omega arith))
-    (λ x s₁ e. check_onto (not (holds x seen)) 5 more _ _ (serials_onto n (seen ++ (x ∷ [])) s₁ more (omega (arith, ap length (serial_back s x s₁ e).3, length-drop 4 s))))
+    (λ x s₁ e. check_onto (not (holds x seen)) R.Twice more _ _ (serials_onto n (seen ++ (x ∷ [])) s₁ more (omega (arith, ap length (serial_back s x s₁ e).3, length-drop 4 s))))
 
 roster_onto : (s more : List ℕ) → 1 + get_or s 0 0 * 4 ≤ length s → roster_section (s ++ more) ≡ onto more (roster_section s)
 unfolding roster_section
 roster_onto s more h =
     then_onto more (byte (s ++ more)) (byte s) _ (byte_onto s more (omega arith))
     (λ n s₁ e. let is : s ≡ n ∷ s₁ = byte_back s n s₁ e in
-    check_onto (leb 1 n) 3 more _ _ (check_onto (leb n 128) 3 more _ _ (serials_onto n [] s₁ more (omega (arith, ap length is, ap (λ (l : List ℕ). get_or l 0 0) is)))))
+    check_onto (leb 1 n) R.BadCount more _ _ (check_onto (leb n 128) R.BadCount more _ _ (serials_onto n [] s₁ more (omega (arith, ap length is, ap (λ (l : List ℕ). get_or l 0 0) is)))))
 
 kind_onto : (s more : List ℕ) → 1 ≤ length s → kind_section (s ++ more) ≡ onto more (kind_section s)
 unfolding kind_section
-kind_onto s more h = then_onto more (byte (s ++ more)) (byte s) _ (byte_onto s more h) (λ k s₁ e. check_onto (known_kind k) 2 more _ _ refl)
+kind_onto s more h = then_onto more (byte (s ++ more)) (byte s) _ (byte_onto s more h) (λ k s₁ e. check_onto (known_kind k) R.UnknownKind more _ _ refl)
 
 head_onto : (alias : ℕ → ℕ) (s more : List ℕ) → roster_end s ≤ length s → head_section alias (s ++ more) ≡ onto more (head_section alias s)
 unfolding head_section roster_end
@@ -54,7 +56,7 @@ head_onto alias s more h =
     (λ own s₂ f. let on : s₂ ≡ drop 4 s₁ = (serial_back s₁ own s₂ f).3 in
     then_onto more (roster_section (s₂ ++ more)) (roster_section s₂) _
     (roster_onto s₂ more (omega (arith, ap length is, ap length on, length-drop 4 s₁, ap (λ (l : List ℕ). get_or l 5 0) is, ap (λ (l : List ℕ). get_or l 0 0) on, get_or-drop 4 s₁ 0 0)))
-    (λ r s₃ g. check_onto (is_on alias r own) 6 more _ _ refl)))
+    (λ r s₃ g. check_onto (is_on alias r own) R.NotOnRoster more _ _ refl)))
 
 -- ---- what is secret
 
@@ -152,11 +154,11 @@ stored_parts alias s r x e k n =
       count = n ∙ sym (ap (λ (y : Stored). length y.roster) is);
     }
 
-parts : (alias : ℕ → ℕ) (s : List ℕ) (r : Record) → reading_lone alias s ≡ R.Read r → Parts alias s r
+parts : (alias : ℕ → ℕ) (s : List ℕ) (r : Record) → reading_lone alias s ≡ Ok r → Parts alias s r
 unfolding reading_lone reading_of
 parts alias s r e = go (lone alias s) refl e
   where
-    go : (p : Parsed Stored) → lone alias s ≡ p → reading_of (length s) 0 p ≡ R.Read r → Parts alias s r
+    go : (p : Parsed Stored) → lone alias s ≡ p → reading_of (length s) 0 p ≡ Ok r → Parts alias s r
     go (got x rest) f g =
         let w = lone_back alias s x rest f in
         let is : record { kind = x.kind; own = record { 0 = x.own }; roster = 6; count = length x.roster; mourned = packed x.mourned; next = length s - length rest } ≡ r = cc in
@@ -164,15 +166,15 @@ parts alias s r e = go (lone alias s) refl e
     go (refused j) f g = let z : ◌≡◌ {A = ℕ} 0 1 = cc in absurd (omega arith)
 
 -- a record that passes 1 to 8 shows the desk its kind, the own serial that stands in it, and its roster
-pub sound_seen : (alias : ℕ → ℕ) (s : List ℕ) (r : Record) (before : List ℕ) → reading_lone alias s ≡ R.Read r
-    → shown_to_desk alias s before ≡ record { answer = S.Seen r.kind (record { 0 = word_at s 1 }); roster = roster_part r.count s }
+pub sound_seen : (alias : ℕ → ℕ) (s : List ℕ) (r : Record) (before : List ℕ) → reading_lone alias s ≡ Ok r
+    → shown_to_desk alias s before ≡ record { answer = Ok (record { kind = r.kind; own = (record { 0 = word_at s 1 }) }); roster = roster_part r.count s }
 unfolding shown_to_desk shown_of
 sound_seen alias s r before e =
     let p : Parts alias s r = parts alias s r e in
     let k : p.head.kind ≡ r.kind = sym p.kind in
     let own : p.head.own ≡ word_at s 1 = own_at alias s p.head p.rest (head_back alias s p.head p.rest p.headed) in
     let n : length p.head.roster ≡ r.count = sym p.count in
-    ap (shown_of s before) p.headed ∙ (λ i. record { answer = S.Seen (k i) (record { 0 = own i }); roster = roster_part (n i) s })
+    ap (shown_of s before) p.headed ∙ (λ i. record { answer = Ok (record { kind = k i; own = record { 0 = own i } }); roster = roster_part (n i) s })
 
 -- ---- a record that is cut
 
@@ -207,17 +209,17 @@ serial_kept s x t e j =
     let l : 4 ≤ length (take 4 s) = omega (arith, length-take-le 4 s v.0) in
     ap serial (take-add 4 j s) ∙ front_got serial 4 s (λ more. serial_onto (take 4 s) more l) x (e ∙ ap (got x) v.3) (take j (drop 4 s)) ∙ ap (λ (m : List ℕ). got x (take j m)) (sym v.3)
 
-serial_cut : (s : List ℕ) (j : ℕ) → j < 4 → serial (take j s) ≡ refused 1
+serial_cut : (s : List ℕ) (j : ℕ) → j < 4 → serial (take j s) ≡ refused R.EndsEarly
 unfolding serial
-serial_cut s j l = check_no _ 1 _ (lt-leb 4 (length (take j s)) (omega (arith, length-take j s)))
+serial_cut s j l = check_no _ R.EndsEarly _ (lt-leb 4 (length (take j s)) (omega (arith, length-take j s)))
 
-then_refused : {A B : Type 0} {p : Parsed A} (next : A → List ℕ → Parsed B) (j : ℕ) → p ≡ refused j → then p next ≡ refused j
+then_refused : {A B : Type 0} {p : Parsed A} (next : A → List ℕ → Parsed B) (j : Refusal) → p ≡ refused j → then p next ≡ refused j
 unfolding then
 then_refused next j e = rw e
 
 -- mourned serials that end the bytes, and are cut
 serials_cut : (alias : ℕ → ℕ) (m : ℕ) (r : List ℕ) (from : ℕ) (M : Places) (s : List ℕ) (P : Places) (j : ℕ)
-    → mourned_serials alias m r from M s ≡ got P [] → j < length s → mourned_serials alias m r from M (take j s) ≡ refused 1
+    → mourned_serials alias m r from M s ≡ got P [] → j < length s → mourned_serials alias m r from M (take j s) ≡ refused R.EndsEarly
 unfolding mourned_serials
 serials_cut alias zero r from M s P j e l = let z : s ≡ [] = cc in absurd (omega (arith, ap length z))
 serials_cut alias (suc m) r from M s P j e l =
@@ -226,32 +228,32 @@ serials_cut alias (suc m) r from M s P j e l =
     let s₁ : List ℕ = w.1 in
     let p : ℕ = place_on alias r x in
     let v = serial_back s x s₁ w.2 in
-    let c = check_back (is_on alias r x) 6 (check (leb from p) 7 (mourned_serials alias m r (suc p) (with p M) s₁)) P [] w.3 in
-    let d = check_back (leb from p) 7 (mourned_serials alias m r (suc p) (with p M) s₁) P [] c.1 in
+    let c = check_back (is_on alias r x) R.NotOnRoster (check (leb from p) R.OutOfOrder (mourned_serials alias m r (suc p) (with p M) s₁)) P [] w.3 in
+    let d = check_back (leb from p) R.OutOfOrder (mourned_serials alias m r (suc p) (with p M) s₁) P [] c.1 in
     go (dec_lt j 4) (λ b. let i : 4 + (j - 4) ≡ j = omega arith in
     ap (λ (k : ℕ). mourned_serials alias (suc m) r from M (take k s)) (sym i)
     ∙ then_got _ x (take (j - 4) s₁) (serial_kept s x s₁ w.2 (j - 4))
-    ∙ check_yes _ 6 _ c.0 ∙ check_yes _ 7 _ d.0
+    ∙ check_yes _ R.NotOnRoster _ c.0 ∙ check_yes _ R.OutOfOrder _ d.0
     ∙ serials_cut alias m r (suc p) (with p M) s₁ P (j - 4) d.1 (omega (arith, v.0, ap length v.3, length-drop 4 s)))
   where
-    go : Dec (j < 4) → (¬ (j < 4) → mourned_serials alias (suc m) r from M (take j s) ≡ refused 1) → mourned_serials alias (suc m) r from M (take j s) ≡ refused 1
-    go (yes b) later = then_refused _ 1 (serial_cut s j b)
+    go : Dec (j < 4) → (¬ (j < 4) → mourned_serials alias (suc m) r from M (take j s) ≡ refused R.EndsEarly) → mourned_serials alias (suc m) r from M (take j s) ≡ refused R.EndsEarly
+    go (yes b) later = then_refused _ R.EndsEarly (serial_cut s j b)
     go (no b) later = later b
 
-mourned_cut : (alias : ℕ → ℕ) (r s : List ℕ) (P : Places) (j : ℕ) → mourned_section alias r s ≡ got P [] → j < length s → mourned_section alias r (take j s) ≡ refused 1
+mourned_cut : (alias : ℕ → ℕ) (r s : List ℕ) (P : Places) (j : ℕ) → mourned_section alias r s ≡ got P [] → j < length s → mourned_section alias r (take j s) ≡ refused R.EndsEarly
 unfolding mourned_section then byte
 mourned_cut alias r [] P j e l = absurd (omega arith)
 mourned_cut alias r (m ∷ s) P zero e l = refl
 mourned_cut alias r (m ∷ s) P (suc j) e l =
-    let c = check_back (leb m (length r)) 3 (mourned_serials alias m r 0 nothing s) P [] e in
-    check_yes _ 3 _ c.0 ∙ serials_cut alias m r 0 nothing s P j c.1 (omega arith)
+    let c = check_back (leb m (length r)) R.BadCount (mourned_serials alias m r 0 nothing s) P [] e in
+    check_yes _ R.BadCount _ c.0 ∙ serials_cut alias m r 0 nothing s P j c.1 (omega arith)
 
 -- a sound record that is cut anywhere in its mourned section, at the count or later, shows the desk the same, and whoever reads it all meets 1
 pub record Cut (alias : ℕ → ℕ) (s before : List ℕ) (r : Record) (k : ℕ) : Type 0 where
-  pub seen : shown_to_desk alias (take k s) before ≡ record { answer = S.Seen r.kind (record { 0 = word_at s 1 }); roster = roster_part r.count s }
-  pub unread : reading_lone alias (take k s) ≡ R.Refused 1
+  pub seen : shown_to_desk alias (take k s) before ≡ record { answer = Ok (record { kind = r.kind; own = (record { 0 = word_at s 1 }) }); roster = roster_part r.count s }
+  pub unread : reading_lone alias (take k s) ≡ Err R.EndsEarly
 
-lone_cut : (alias : ℕ → ℕ) (s : List ℕ) (r : Record) (k : ℕ) → Parts alias s r → roster_end s ≤ k → k < length s → lone alias (take k s) ≡ refused 1
+lone_cut : (alias : ℕ → ℕ) (s : List ℕ) (r : Record) (k : ℕ) → Parts alias s r → roster_end s ≤ k → k < length s → lone alias (take k s) ≡ refused R.EndsEarly
 unfolding lone stored
 lone_cut alias s r k p f l =
     let h : Head = p.head in
@@ -262,10 +264,10 @@ lone_cut alias s r k p f l =
     let kept : head_section alias (take k s) ≡ got h (take (k - e) t) =
     ap (λ (m : ℕ). head_section alias (take m s)) (sym i) ∙ ap (head_section alias) (take-add e (k - e) s) ∙ head_front alias s h t p.headed (take (k - e) (drop e s))
     ∙ ap (λ (m : List ℕ). got h (take (k - e) m)) (sym d) in
-    then_refused _ 1 (then_got _ h (take (k - e) t) kept
-    ∙ then_refused _ 1 (mourned_cut alias h.roster t p.mourned (k - e) p.ended (omega (arith, ap length d, length-drop e s))))
+    then_refused _ R.EndsEarly (then_got _ h (take (k - e) t) kept
+    ∙ then_refused _ R.EndsEarly (mourned_cut alias h.roster t p.mourned (k - e) p.ended (omega (arith, ap length d, length-drop e s))))
 
-pub cut_behind : (alias : ℕ → ℕ) (s before : List ℕ) (r : Record) (k : ℕ) → reading_lone alias s ≡ R.Read r → roster_end s ≤ k → k < length s → Cut alias s before r k
+pub cut_behind : (alias : ℕ → ℕ) (s before : List ℕ) (r : Record) (k : ℕ) → reading_lone alias s ≡ Ok r → roster_end s ≤ k → k < length s → Cut alias s before r k
 unfolding reading_lone reading_of
 cut_behind alias s before r k e f l =
     record {
@@ -276,56 +278,56 @@ cut_behind alias s before r k e f l =
 -- ---- what is refused
 
 -- the desk is refused what the head is refused by
-desk_refused : (alias : ℕ → ℕ) (s before : List ℕ) (j : ℕ) → (shown_to_desk alias s before).answer ≡ S.Refused j → head_section alias s ≡ refused j
+desk_refused : (alias : ℕ → ℕ) (s before : List ℕ) (j : Refusal) → (shown_to_desk alias s before).answer ≡ Err j → head_section alias s ≡ refused j
 unfolding shown_to_desk shown_of
 desk_refused alias s before j e = go (head_section alias s) e
   where
-    go : (p : Parsed Head) → (shown_of s before p).answer ≡ S.Refused j → p ≡ refused j
+    go : (p : Parsed Head) → (shown_of s before p).answer ≡ Err j → p ≡ refused j
     go (got h t) f = let z : ◌≡◌ {A = ℕ} 0 1 = cc in absurd (omega arith)
     go (refused i) f = cc
 
 -- what the desk is refused, whoever reads it all is refused by the same number
-pub refused_both : (alias : ℕ → ℕ) (s before : List ℕ) (j : ℕ) → (shown_to_desk alias s before).answer ≡ S.Refused j → reading_lone alias s ≡ R.Refused j
+pub refused_both : (alias : ℕ → ℕ) (s before : List ℕ) (j : Refusal) → (shown_to_desk alias s before).answer ≡ Err j → reading_lone alias s ≡ Err j
 unfolding reading_lone reading_of lone stored
 refused_both alias s before j e = ap (reading_of (length s) 0) (then_refused _ j (then_refused _ j (desk_refused alias s before j e)))
 
 -- the desk is refused by 1 to 6
-pub desk_faults : (alias : ℕ → ℕ) (s before : List ℕ) (j : ℕ) → (shown_to_desk alias s before).answer ≡ S.Refused j → (1 ≤ j) × (j ≤ 6)
+pub desk_faults : (alias : ℕ → ℕ) (s before : List ℕ) (j : Refusal) → (shown_to_desk alias s before).answer ≡ Err j → (1 ≤ number j) × (number j ≤ 6)
 desk_faults alias s before j e = head_faults alias s j (desk_refused alias s before j e)
 
 -- a refused record leaves the desk the slice that it had
-pub refused_kept : (alias : ℕ → ℕ) (s before : List ℕ) (j : ℕ) → (shown_to_desk alias s before).answer ≡ S.Refused j → (shown_to_desk alias s before).roster ≡ before
+pub refused_kept : (alias : ℕ → ℕ) (s before : List ℕ) (j : Refusal) → (shown_to_desk alias s before).answer ≡ Err j → (shown_to_desk alias s before).roster ≡ before
 unfolding shown_to_desk shown_of
 refused_kept alias s before j e = go (head_section alias s) e
   where
-    go : (p : Parsed Head) → (shown_of s before p).answer ≡ S.Refused j → (shown_of s before p).roster ≡ before
+    go : (p : Parsed Head) → (shown_of s before p).answer ≡ Err j → (shown_of s before p).roster ≡ before
     go (got h t) g = let z : ◌≡◌ {A = ℕ} 0 1 = cc in absurd (omega arith)
     go (refused i) g = refl
 
 -- where the part is said to lie: in the block of the lent bytes, as many bytes on as it starts in them
 pub lies_as_part : (n : ℕ) (s : List ℕ) (k : Kind) (own : Serial) (bytes had : ℕ × ℕ)
-    → (d : ℕ) × (lies_of (S.Seen k own) bytes had ≡ (bytes.0, d + bytes.1)) × (roster_part n s ≡ take (n * 4) (drop d s))
+    → (d : ℕ) × (lies_of (Ok (record { kind = k; own = own })) bytes had ≡ (bytes.0, d + bytes.1)) × (roster_part n s ≡ take (n * 4) (drop d s))
 unfolding lies_of roster_part
 lies_as_part n s k own bytes had = (6, refl, refl)
 
 -- what was seen, as the head that was read
-seen_head : (alias : ℕ → ℕ) (s before : List ℕ) (k : Kind) (own : Serial) → (shown_to_desk alias s before).answer ≡ S.Seen k own → (h : Head) × (t : List ℕ) × (head_section alias s ≡ got h t)
+seen_head : (alias : ℕ → ℕ) (s before : List ℕ) (k : Kind) (own : Serial) → (shown_to_desk alias s before).answer ≡ Ok (record { kind = k; own = own }) → (h : Head) × (t : List ℕ) × (head_section alias s ≡ got h t)
 unfolding shown_to_desk shown_of
 seen_head alias s before k own e = go (head_section alias s) refl e
   where
-    go : (p : Parsed Head) → head_section alias s ≡ p → (shown_of s before p).answer ≡ S.Seen k own → (h : Head) × (t : List ℕ) × (head_section alias s ≡ got h t)
+    go : (p : Parsed Head) → head_section alias s ≡ p → (shown_of s before p).answer ≡ Ok (record { kind = k; own = own }) → (h : Head) × (t : List ℕ) × (head_section alias s ≡ got h t)
     go (got h t) f g = (h, t, f)
     go (refused j) f g = let z : ◌≡◌ {A = ℕ} 0 1 = cc in absurd (omega arith)
 
 -- the desk is shown something only where the record would pass 1 to 8 with nobody mourned
-pub seen_sound : (alias : ℕ → ℕ) (s before : List ℕ) (k : Kind) (own : Serial) → (shown_to_desk alias s before).answer ≡ S.Seen k own
-    → (r : Record) × (reading_lone alias (nobody_mourned s) ≡ R.Read r)
+pub seen_sound : (alias : ℕ → ℕ) (s before : List ℕ) (k : Kind) (own : Serial) → (shown_to_desk alias s before).answer ≡ Ok (record { kind = k; own = own })
+    → (r : Record) × (reading_lone alias (nobody_mourned s) ≡ Ok r)
 unfolding reading_lone reading_of lone stored mourned_section mourned_serials byte then check nobody_mourned
 seen_sound alias s before k own e =
     let w = seen_head alias s before k own e in
     let h : Head = w.0 in
     let x : Stored = record { kind = h.kind; own = h.place; roster = h.roster; mourned = nothing } in
-    let mourned : mourned_section alias h.roster (0 ∷ []) ≡ got nothing [] = check_yes _ 3 _ (le-leb 0 (length h.roster) (omega arith)) in
+    let mourned : mourned_section alias h.roster (0 ∷ []) ≡ got nothing [] = check_yes _ R.BadCount _ (le-leb 0 (length h.roster) (omega arith)) in
     let whole : stored alias (nobody_mourned s) ≡ got x [] =
     then_got _ h (0 ∷ []) (head_front alias s h w.1 w.2 (0 ∷ [])) ∙ then_got _ nothing [] mourned in
     (_, ap (reading_of (length (nobody_mourned s)) 0) (then_got _ x [] whole))
@@ -333,7 +335,7 @@ seen_sound alias s before k own e =
 -- ---- what is handed back
 
 -- the part is that of as many serials as the roster's count says, and it is all there
-module _ (alias : ℕ → ℕ) (s before : List ℕ) (k : Kind) (own : Serial) (e : (shown_to_desk alias s before).answer ≡ S.Seen k own) where
+module _ (alias : ℕ → ℕ) (s before : List ℕ) (k : Kind) (own : Serial) (e : (shown_to_desk alias s before).answer ≡ Ok (record { kind = k; own = own })) where
   counted : (h : Head) (t : List ℕ) → head_section alias s ≡ got h t → length h.roster ≡ get_or s 5 0
   unfolding roster_end
   counted h t f = omega (arith, ends alias s h t (head_back alias s h t f))

@@ -1,5 +1,8 @@
 -- The reader answers just by the faults of specs/Faults.antt: it refuses by j where j is the first fault of the bytes, it reads where they have none, and what it then says stands in the bytes.
 -- The parser is walked at positions of the bytes; that bytes have a fault or none is decided without it. Assumes nothing.
+use Rattle.refusals.specs.declared.Refusal.{Refusal}
+use Rattle.refusals.specs.declared.Refusal.TheVariants as R
+use Rattle.std.specs.Prelude.{Result, Ok, Err}
 use mathlib.Core.Path.{◌≡◌, refl, sym, ap, ap₂, subst, ◌∙◌}
 use mathlib.Core.Bool.{Bool, true, false, not, ◌||◌}
 use mathlib.Core.Logic.{◌⊎◌, inl, inr, ⊎_elim, ◌↔◌}
@@ -61,7 +64,7 @@ module _ (b : List ℕ) where
 
   -- what follows a serial of the roster
   judge : ℕ → List ℕ → ℕ → List ℕ → Parsed (List ℕ)
-  judge m seen x s₁ = check (not (holds x seen)) 5 (roster_serials m (seen ++ (x ∷ [])) s₁)
+  judge m seen x s₁ = check (not (holds x seen)) R.Twice (roster_serials m (seen ++ (x ∷ [])) s₁)
 
   module _ (k : ℕ) where
     seen_new : SerialSound b k → holds (roster_serial b k) (serials k (drop 6 b)) ≡ false
@@ -84,23 +87,23 @@ module _ (b : List ℕ) where
       serial_passes s =
           let d : 6 + 4 * k + 4 ≡ 6 + 4 * suc k = omega arith in
           S.serial_got b (6 + 4 * k) (judge m (serials k (drop 6 b))) (omega (arith, s.there)) (roster_serial b k) refl s.not_zero
-          ∙ S.check_yes (not (holds (roster_serial b k) (serials k (drop 6 b)))) 5 _ (not_intro (seen_new s))
+          ∙ S.check_yes (not (holds (roster_serial b k) (serials k (drop 6 b)))) R.Twice _ (not_intro (seen_new s))
           ∙ ap₂ (λ (l t : List ℕ). roster_serials m l t) (sym (serials_step k)) (ap (λ (p : ℕ). drop p b) d)
 
-      serial_1 : length b < 6 + 4 * suc k → roster_serials (suc m) (serials k (drop 6 b)) (drop (6 + 4 * k) b) ≡ refused 1
+      serial_1 : length b < 6 + 4 * suc k → roster_serials (suc m) (serials k (drop 6 b)) (drop (6 + 4 * k) b) ≡ refused R.EndsEarly
       unfolding roster_serials judge
       serial_1 l = S.serial_early b (6 + 4 * k) (judge m (serials k (drop 6 b))) (omega (arith, l))
 
-      serial_4 : 6 + 4 * suc k ≤ length b → roster_serial b k ≡ 0 → roster_serials (suc m) (serials k (drop 6 b)) (drop (6 + 4 * k) b) ≡ refused 4
+      serial_4 : 6 + 4 * suc k ≤ length b → roster_serial b k ≡ 0 → roster_serials (suc m) (serials k (drop 6 b)) (drop (6 + 4 * k) b) ≡ refused R.ZeroSerial
       unfolding roster_serials judge
       serial_4 l z = S.serial_zero b (6 + 4 * k) (judge m (serials k (drop 6 b))) (omega (arith, l)) (roster_serial b k) refl z
 
       serial_5 : 6 + 4 * suc k ≤ length b → ¬ (roster_serial b k ≡ 0) → (j : ℕ) → j < k → roster_serial b j ≡ roster_serial b k
-          → roster_serials (suc m) (serials k (drop 6 b)) (drop (6 + 4 * k) b) ≡ refused 5
+          → roster_serials (suc m) (serials k (drop 6 b)) (drop (6 + 4 * k) b) ≡ refused R.Twice
       unfolding roster_serials judge
       serial_5 l z j h e =
           S.serial_got b (6 + 4 * k) (judge m (serials k (drop 6 b))) (omega (arith, l)) (roster_serial b k) refl z
-          ∙ S.check_no (not (holds (roster_serial b k) (serials k (drop 6 b)))) 5 _ (ap not (seen_old j h e))
+          ∙ S.check_no (not (holds (roster_serial b k) (serials k (drop 6 b)))) R.Twice _ (ap not (seen_old j h e))
 
   -- k sound serials are read
   roster_passes : (k m : ℕ) → ((j : ℕ) → j < k → SerialSound b j) → roster_serials (k + m) [] (drop 6 b) ≡ roster_serials m (serials k (drop 6 b)) (drop (6 + 4 * k) b)
@@ -110,7 +113,7 @@ module _ (b : List ℕ) where
       let e : suc k + m ≡ k + suc m = omega arith in
       ap (λ (n : ℕ). roster_serials n [] (drop 6 b)) e ∙ roster_passes k (suc m) (λ j l. s j (omega arith)) ∙ serial_passes k m (s k (omega arith))
 
-  roster_stops : (k n j : ℕ) → k < n → ((j : ℕ) → j < k → SerialSound b j)
+  roster_stops : (k n : ℕ) (j : Refusal) → k < n → ((i : ℕ) → i < k → SerialSound b i)
       → ((m : ℕ) → roster_serials (suc m) (serials k (drop 6 b)) (drop (6 + 4 * k) b) ≡ refused j) → roster_serials n [] (drop 6 b) ≡ refused j
   roster_stops k n j l s h =
       let e : n ≡ k + suc (n - suc k) = omega arith in
@@ -196,12 +199,12 @@ module _ (alias : ℕ → ℕ) (b : List ℕ) where
   count_passes : CountSound b → roster_section (drop 5 b) ≡ roster_serials (roster_count b) [] (drop 6 b)
   count_passes s = roster_counted b 5 s.there s.some s.few
 
-  after_refused : (k : Kind) (x j : ℕ) (s : List ℕ) → roster_section s ≡ refused j → roster_after alias k x s ≡ refused j
+  after_refused : (k : Kind) (x : ℕ) (j : Refusal) (s : List ℕ) → roster_section s ≡ refused j → roster_after alias k x s ≡ refused j
   unfolding roster_after then
   after_refused k x j s e = rw e
 
   after_read : (k : Kind) (x : ℕ) (s r t : List ℕ) → roster_section s ≡ got r t
-      → roster_after alias k x s ≡ check (is_on alias r x) 6 (got (record { kind = k; own = x; place = place_on alias r x; roster = r }) t)
+      → roster_after alias k x s ≡ check (is_on alias r x) R.NotOnRoster (got (record { kind = k; own = x; place = place_on alias r x; roster = r }) t)
   unfolding roster_after then
   after_read k x s r t e = rw e
 
@@ -209,7 +212,7 @@ module _ (alias : ℕ → ℕ) (b : List ℕ) where
   head_of k = record { kind = k; own = own b; place = place_on alias (roster b) (own b); roster = roster b }
 
   whole_roster : RosterSound b (roster_count b)
-      → (k : Kind) × (kind_byte k ≡ get_or b 0 0) × (head_section alias b ≡ check (is_on alias (roster b) (own b)) 6 (got (head_of k) (drop (tail_at b) b)))
+      → (k : Kind) × (kind_byte k ≡ get_or b 0 0) × (head_section alias b ≡ check (is_on alias (roster b) (own b)) R.NotOnRoster (got (head_of k) (drop (tail_at b) b)))
   whole_roster s =
       let w = own_passes s.count.owner in
       (w.0, w.1, w.2 ∙ after_read w.0 (own b) (drop 5 b) (roster b) (drop (tail_at b) b) (count_passes s.count ∙ roster_read b s))
@@ -217,28 +220,28 @@ module _ (alias : ℕ → ℕ) (b : List ℕ) where
   head_passes : HeadSound alias b → (k : Kind) × (kind_byte k ≡ get_or b 0 0) × (head_section alias b ≡ got (head_of k) (drop (tail_at b) b))
   head_passes s =
       let w = whole_roster s.roster in
-      (w.0, w.1, w.2 ∙ S.check_yes _ 6 _ (stands_place alias b s.roster (own b) s.on.0 s.on.1).0)
+      (w.0, w.1, w.2 ∙ S.check_yes _ R.NotOnRoster _ (stands_place alias b s.roster (own b) s.on.0 s.on.1).0)
 
   -- a head that is refused
-  lone_head : (j : ℕ) → head_section alias b ≡ refused j → lone alias b ≡ refused j
+  lone_head : (j : Refusal) → head_section alias b ≡ refused j → lone alias b ≡ refused j
   unfolding lone stored then
   lone_head j e = rw e
 
-  roster_fails : OwnSound b → (j : ℕ) → roster_section (drop 5 b) ≡ refused j → lone alias b ≡ refused j
+  roster_fails : OwnSound b → (j : Refusal) → roster_section (drop 5 b) ≡ refused j → lone alias b ≡ refused j
   roster_fails s j e = let w = own_passes s in lone_head j (w.2 ∙ after_refused w.0 (own b) j (drop 5 b) e)
 
-  serials_fail : {k : ℕ} → RosterSound b k → k < roster_count b → (j : ℕ)
+  serials_fail : {k : ℕ} → RosterSound b k → k < roster_count b → (j : Refusal)
       → ((m : ℕ) → roster_serials (suc m) (serials k (drop 6 b)) (drop (6 + 4 * k) b) ≡ refused j) → lone alias b ≡ refused j
   serials_fail {k} s l j h = roster_fails s.count.owner j (count_passes s.count ∙ roster_stops b k (roster_count b) j l s.each h)
 
   -- a mourned section that is refused, or read
   module _ (h : HeadSound alias b) where
-    lone_tail : (j : ℕ) → mourned_section alias (roster b) (drop (tail_at b) b) ≡ refused j → lone alias b ≡ refused j
+    lone_tail : (j : Refusal) → mourned_section alias (roster b) (drop (tail_at b) b) ≡ refused j → lone alias b ≡ refused j
     unfolding lone stored then
     lone_tail j e = rw ((head_passes h).2, e)
 
     lone_read : (M : Places) (t : List ℕ) → mourned_section alias (roster b) (drop (tail_at b) b) ≡ got M t
-        → lone alias b ≡ check (eqb (length t) 0) 8 (got (record { kind = (head_passes h).0; own = place_on alias (roster b) (own b); roster = roster b; mourned = M }) t)
+        → lone alias b ≡ check (eqb (length t) 0) R.BytesAfter (got (record { kind = (head_passes h).0; own = place_on alias (roster b) (own b); roster = roster b; mourned = M }) t)
     unfolding lone stored then
     lone_read M t e = rw ((head_passes h).2, e)
 
@@ -260,27 +263,27 @@ module _ (alias : ℕ → ℕ) (b : List ℕ) where
   -- what follows a mourned serial
   weigh : ℕ → ℕ → Places → ℕ → List ℕ → Parsed Places
   weigh m from M x s₁ =
-      check (is_on alias (roster b) x) 6
-      (check (leb from (place_on alias (roster b) x)) 7
+      check (is_on alias (roster b) x) R.NotOnRoster
+      (check (leb from (place_on alias (roster b) x)) R.OutOfOrder
       (mourned_serials alias m (roster b) (suc (place_on alias (roster b) x)) (with (place_on alias (roster b) x) M) s₁))
 
   mourned_counted : ℕ → List ℕ → Parsed Places
-  mourned_counted m s₁ = check (leb m (length (roster b))) 3 (mourned_serials alias m (roster b) 0 nothing s₁)
+  mourned_counted m s₁ = check (leb m (length (roster b))) R.BadCount (mourned_serials alias m (roster b) 0 nothing s₁)
 
-  tail_1 : length b < tail_at b + 1 → mourned_section alias (roster b) (drop (tail_at b) b) ≡ refused 1
+  tail_1 : length b < tail_at b + 1 → mourned_section alias (roster b) (drop (tail_at b) b) ≡ refused R.EndsEarly
   unfolding mourned_section mourned_counted
   tail_1 l = S.byte_early b (tail_at b) mourned_counted (omega (arith, l))
 
-  tail_3 : tail_at b + 1 ≤ length b → roster_count b < mourned_count b → mourned_section alias (roster b) (drop (tail_at b) b) ≡ refused 3
+  tail_3 : tail_at b + 1 ≤ length b → roster_count b < mourned_count b → mourned_section alias (roster b) (drop (tail_at b) b) ≡ refused R.BadCount
   unfolding mourned_section mourned_counted
-  tail_3 l h = S.byte_got b (tail_at b) mourned_counted (omega (arith, l)) ∙ S.check_no _ 3 _ (lt-leb (mourned_count b) (length (roster b)) (omega (arith, h, long b)))
+  tail_3 l h = S.byte_got b (tail_at b) mourned_counted (omega (arith, l)) ∙ S.check_no _ R.BadCount _ (lt-leb (mourned_count b) (length (roster b)) (omega (arith, h, long b)))
 
   tail_passes : tail_at b + 1 ≤ length b → mourned_count b ≤ roster_count b
       → mourned_section alias (roster b) (drop (tail_at b) b) ≡ mourned_serials alias (mourned_count b) (roster b) 0 nothing (drop (mourned_at b 0) b)
   unfolding mourned_section mourned_counted
   tail_passes l h =
       let e : tail_at b + 1 ≡ mourned_at b 0 = omega arith in
-      S.byte_got b (tail_at b) mourned_counted (omega (arith, l)) ∙ S.check_yes _ 3 _ (le-leb (mourned_count b) (length (roster b)) (omega (arith, h, long b)))
+      S.byte_got b (tail_at b) mourned_counted (omega (arith, l)) ∙ S.check_yes _ R.BadCount _ (le-leb (mourned_count b) (length (roster b)) (omega (arith, h, long b)))
       ∙ ap (λ (p : ℕ). mourned_serials alias (mourned_count b) (roster b) 0 nothing (drop p b)) e
 
   -- the parser at mourned serial k, with m more to come
@@ -288,12 +291,12 @@ module _ (alias : ℕ → ℕ) (b : List ℕ) where
   mourned_from k m = mourned_serials alias (suc m) (roster b) (from_at k) (set_at k) (drop (mourned_at b k) b)
 
   module _ (k m : ℕ) where
-    mourned_1 : length b < mourned_at b (suc k) → mourned_from k m ≡ refused 1
+    mourned_1 : length b < mourned_at b (suc k) → mourned_from k m ≡ refused R.EndsEarly
     unfolding mourned_serials weigh
     mourned_1 l = S.serial_early b (mourned_at b k) (weigh m (from_at k) (set_at k)) (omega (arith, l))
 
     module _ (there : mourned_at b (suc k) ≤ length b) where
-      mourned_4 : mourned_serial b k ≡ 0 → mourned_from k m ≡ refused 4
+      mourned_4 : mourned_serial b k ≡ 0 → mourned_from k m ≡ refused R.ZeroSerial
       unfolding mourned_serials weigh
       mourned_4 z = S.serial_zero b (mourned_at b k) (weigh m (from_at k) (set_at k)) (omega (arith, there)) (mourned_serial b k) refl z
 
@@ -305,18 +308,18 @@ module _ (alias : ℕ → ℕ) (b : List ℕ) where
             S.serial_got b (mourned_at b k) (weigh m (from_at k) (set_at k)) (omega (arith, there)) (mourned_serial b k) refl some
             ∙ ap (λ (p : ℕ). weigh m (from_at k) (set_at k) (mourned_serial b k) (drop p b)) d
 
-        mourned_6 : is_on alias (roster b) (mourned_serial b k) ≡ false → mourned_from k m ≡ refused 6
+        mourned_6 : is_on alias (roster b) (mourned_serial b k) ≡ false → mourned_from k m ≡ refused R.NotOnRoster
         unfolding weigh
-        mourned_6 h = mourned_there ∙ S.check_no _ 6 _ h
+        mourned_6 h = mourned_there ∙ S.check_no _ R.NotOnRoster _ h
 
         module _ (on : is_on alias (roster b) (mourned_serial b k) ≡ true) where
-          mourned_7 : place_at k < from_at k → mourned_from k m ≡ refused 7
+          mourned_7 : place_at k < from_at k → mourned_from k m ≡ refused R.OutOfOrder
           unfolding weigh
-          mourned_7 h = mourned_there ∙ S.check_yes _ 6 _ on ∙ S.check_no _ 7 _ (lt-leb (from_at k) (place_at k) h)
+          mourned_7 h = mourned_there ∙ S.check_yes _ R.NotOnRoster _ on ∙ S.check_no _ R.OutOfOrder _ (lt-leb (from_at k) (place_at k) h)
 
           mourned_on : from_at k ≤ place_at k → mourned_from k m ≡ mourned_serials alias m (roster b) (from_at (suc k)) (set_at (suc k)) (drop (mourned_at b (suc k)) b)
           unfolding weigh from_at set_at
-          mourned_on h = mourned_there ∙ S.check_yes _ 6 _ on ∙ S.check_yes _ 7 _ (le-leb (from_at k) (place_at k) h)
+          mourned_on h = mourned_there ∙ S.check_yes _ R.NotOnRoster _ on ∙ S.check_yes _ R.OutOfOrder _ (le-leb (from_at k) (place_at k) h)
 
   -- k sound serials are read
   module _ (s : RosterSound b (roster_count b)) where
@@ -341,7 +344,7 @@ module _ (alias : ℕ → ℕ) (b : List ℕ) where
         ∙ mourned_passes k (suc m) (λ i l. e i (omega arith))
         ∙ mourned_on k m w.there w.not_zero (stands_place alias b s (mourned_serial b k) w.place w.stands).0 (rising k (λ i l. e i (omega arith)) w)
 
-  mourned_fails : {k : ℕ} → TailSound alias b k → k < mourned_count b → (j : ℕ) → ((m : ℕ) → mourned_from k m ≡ refused j) → lone alias b ≡ refused j
+  mourned_fails : {k : ℕ} → TailSound alias b k → k < mourned_count b → (j : Refusal) → ((m : ℕ) → mourned_from k m ≡ refused j) → lone alias b ≡ refused j
   mourned_fails {k} s l j h =
       let e : mourned_count b ≡ k + suc (mourned_count b - suc k) = omega (arith, l) in
       lone_tail alias b s.count.head j (tail_passes s.count.there s.count.few
@@ -378,30 +381,30 @@ module _ (alias : ℕ → ℕ) (b : List ℕ) where
 -- ---- the bytes have a fault: the reader refuses by it
 
 module _ (alias : ℕ → ℕ) (b : List ℕ) where
-  refuses : (j : ℕ) → Fault alias b j → lone alias b ≡ refused j
+  refuses : (j : Refusal) → Fault alias b j → lone alias b ≡ refused j
   unfolding own_after
-  refuses _ (no_kind l) = lone_head alias b 1 (head_early alias b 0 (omega (arith, l)))
-  refuses _ (own_cut s l) = let w = kind_passes alias b s in lone_head alias b 1 (w.2 ∙ S.serial_early b 1 (roster_after alias w.0) l)
-  refuses _ (no_roster_count s l) = roster_fails alias b s 1 (roster_early b 5 (omega (arith, l)))
-  refuses _ (serial_cut {k} s l h) = serials_fail alias b s l 1 (λ m. serial_1 b k m h)
-  refuses _ (no_mourned_count s l) = lone_tail alias b s 1 (tail_1 alias b l)
-  refuses _ (mourned_cut {j} s l h) = mourned_fails alias b s l 1 (λ m. mourned_1 alias b j m h)
-  refuses _ (unknown_kind l e f) = lone_head alias b 2 (head_unknown alias b 0 l e f)
+  refuses _ (no_kind l) = lone_head alias b R.EndsEarly (head_early alias b 0 (omega (arith, l)))
+  refuses _ (own_cut s l) = let w = kind_passes alias b s in lone_head alias b R.EndsEarly (w.2 ∙ S.serial_early b 1 (roster_after alias w.0) l)
+  refuses _ (no_roster_count s l) = roster_fails alias b s R.EndsEarly (roster_early b 5 (omega (arith, l)))
+  refuses _ (serial_cut {k} s l h) = serials_fail alias b s l R.EndsEarly (λ m. serial_1 b k m h)
+  refuses _ (no_mourned_count s l) = lone_tail alias b s R.EndsEarly (tail_1 alias b l)
+  refuses _ (mourned_cut {j} s l h) = mourned_fails alias b s l R.EndsEarly (λ m. mourned_1 alias b j m h)
+  refuses _ (unknown_kind l e f) = lone_head alias b R.UnknownKind (head_unknown alias b 0 l e f)
   refuses _ (roster_count_off s l h) =
-      roster_fails alias b s 3 (⊎_elim (λ e. roster_few b 5 l (omega (arith, e))) (λ e. roster_many b 5 l (omega (arith, e)) e) h)
-  refuses _ (mourned_count_above s l h) = lone_tail alias b s 3 (tail_3 alias b l h)
-  refuses _ (own_zero s l z) = let w = kind_passes alias b s in lone_head alias b 4 (w.2 ∙ S.serial_zero b 1 (roster_after alias w.0) l (own b) refl z)
-  refuses _ (serial_zero {k} s l h z) = serials_fail alias b s l 4 (λ m. serial_4 b k m h z)
-  refuses _ (mourned_zero {j} s l h z) = mourned_fails alias b s l 4 (λ m. mourned_4 alias b j m h z)
-  refuses _ (serial_twice {j} {k} s l h z i e) = serials_fail alias b s l 5 (λ m. serial_5 b k m h z j i e)
-  refuses _ (own_off s h) = lone_head alias b 6 ((whole_roster alias b s).2 ∙ S.check_no _ 6 _ (not_on alias b (own b) h))
-  refuses _ (mourned_off {j} s l h z f) = mourned_fails alias b s l 6 (λ m. mourned_6 alias b j m h z (not_on alias b (mourned_serial b j) f))
+      roster_fails alias b s R.BadCount (⊎_elim (λ e. roster_few b 5 l (omega (arith, e))) (λ e. roster_many b 5 l (omega (arith, e)) e) h)
+  refuses _ (mourned_count_above s l h) = lone_tail alias b s R.BadCount (tail_3 alias b l h)
+  refuses _ (own_zero s l z) = let w = kind_passes alias b s in lone_head alias b R.ZeroSerial (w.2 ∙ S.serial_zero b 1 (roster_after alias w.0) l (own b) refl z)
+  refuses _ (serial_zero {k} s l h z) = serials_fail alias b s l R.ZeroSerial (λ m. serial_4 b k m h z)
+  refuses _ (mourned_zero {j} s l h z) = mourned_fails alias b s l R.ZeroSerial (λ m. mourned_4 alias b j m h z)
+  refuses _ (serial_twice {j} {k} s l h z i e) = serials_fail alias b s l R.Twice (λ m. serial_5 b k m h z j i e)
+  refuses _ (own_off s h) = lone_head alias b R.NotOnRoster ((whole_roster alias b s).2 ∙ S.check_no _ R.NotOnRoster _ (not_on alias b (own b) h))
+  refuses _ (mourned_off {j} s l h z f) = mourned_fails alias b s l R.NotOnRoster (λ m. mourned_6 alias b j m h z (not_on alias b (mourned_serial b j) f))
   refuses _ (mourned_order {i} {j} {p} {q} s l h z u m v n) =
       let r : RosterSound b (roster_count b) = s.count.head.roster in
-      mourned_fails alias b s l 7 (λ k. mourned_7 alias b j k h z (stands_place alias b r (mourned_serial b j) p u).0 (falling alias b r i j p q s.each u m v n))
+      mourned_fails alias b s l R.OutOfOrder (λ k. mourned_7 alias b j k h z (stands_place alias b r (mourned_serial b j) p u).0 (falling alias b r i j p q s.each u m v n))
   refuses _ (follows s l) =
       lone_read alias b s.count.head _ _ (tail_read alias b s)
-      ∙ S.check_no _ 8 _ (ne_eqb (length (drop (mourned_at b (mourned_count b)) b)) 0 (λ z. omega (arith, l, z, length-drop (mourned_at b (mourned_count b)) b)))
+      ∙ S.check_no _ R.BytesAfter _ (ne_eqb (length (drop (mourned_at b (mourned_count b)) b)) 0 (λ z. omega (arith, l, z, length-drop (mourned_at b (mourned_count b)) b)))
 
 -- ---- the bytes have no fault: the reader reads what stands there
 
@@ -448,7 +451,7 @@ module _ (alias : ℕ → ℕ) (b : List ℕ) where
       let none : drop (mourned_at b (mourned_count b)) b ≡ [] = drop_of_length-le b {i = mourned_at b (mourned_count b)} (omega (arith, s.ends)) in
       let read : lone alias b ≡ got x [] =
       lone_read alias b h _ _ (tail_read alias b t)
-      ∙ S.check_yes _ 8 _ (eq-eqb (length (drop (mourned_at b (mourned_count b)) b)) 0 (ap length none)) ∙ ap (λ (l : List ℕ). got x l) none in
+      ∙ S.check_yes _ R.BytesAfter _ (eq-eqb (length (drop (mourned_at b (mourned_count b)) b)) 0 (ap length none)) ∙ ap (λ (l : List ℕ). got x l) none in
       let says : Says x = (
         (head_passes alias b h).1,
         place_stands alias b (own b) (stands_place alias b h.roster (own b) h.on.0 h.on.1).0,
@@ -478,32 +481,32 @@ reaching f (suc k) p = go (dec_lt (f k) p) (reaching f k p)
 
 module _ (alias : ℕ → ℕ) (b : List ℕ) where
   abbrev Faulty : Type 0
-  Faulty = (j : ℕ) × Fault alias b j
+  Faulty = (j : Refusal) × Fault alias b j
 
   kind_judged : Faulty ⊎ KindSound b
   kind_judged = go (dec_lt (length b) 1) (ℕ_discrete (get_or b 0 0) 1) (ℕ_discrete (get_or b 0 0) 2)
     where
       go : Dec (length b < 1) → Dec (get_or b 0 0 ≡ 1) → Dec (get_or b 0 0 ≡ 2) → Faulty ⊎ KindSound b
-      go (yes l) e f = inl (1, no_kind l)
+      go (yes l) e f = inl (R.EndsEarly, no_kind l)
       go (no l) (yes e) f = inr (record { there = omega arith; known = inl e })
       go (no l) (no e) (yes f) = inr (record { there = omega arith; known = inr f })
-      go (no l) (no e) (no f) = inl (2, unknown_kind (omega arith) e f)
+      go (no l) (no e) (no f) = inl (R.UnknownKind, unknown_kind (omega arith) e f)
 
   own_judged : KindSound b → Faulty ⊎ OwnSound b
   own_judged s = go (dec_lt (length b) 5) (ℕ_discrete (own b) 0)
     where
       go : Dec (length b < 5) → Dec (own b ≡ 0) → Faulty ⊎ OwnSound b
-      go (yes l) z = inl (1, own_cut s l)
-      go (no l) (yes z) = inl (4, own_zero s (omega arith) z)
+      go (yes l) z = inl (R.EndsEarly, own_cut s l)
+      go (no l) (yes z) = inl (R.ZeroSerial, own_zero s (omega arith) z)
       go (no l) (no z) = inr (record { kind = s; there = omega arith; not_zero = z })
 
   count_judged : OwnSound b → Faulty ⊎ CountSound b
   count_judged s = go (dec_lt (length b) 6) (ℕ_discrete (roster_count b) 0) (dec_lt 128 (roster_count b))
     where
       go : Dec (length b < 6) → Dec (roster_count b ≡ 0) → Dec (128 < roster_count b) → Faulty ⊎ CountSound b
-      go (yes l) e f = inl (1, no_roster_count s l)
-      go (no l) (yes e) f = inl (3, roster_count_off s (omega arith) (inl e))
-      go (no l) (no e) (yes f) = inl (3, roster_count_off s (omega arith) (inr f))
+      go (yes l) e f = inl (R.EndsEarly, no_roster_count s l)
+      go (no l) (yes e) f = inl (R.BadCount, roster_count_off s (omega arith) (inl e))
+      go (no l) (no e) (yes f) = inl (R.BadCount, roster_count_off s (omega arith) (inr f))
       go (no l) (no e) (no f) = inr (record { owner = s; there = omega arith; some = omega arith; few = omega arith })
 
   serial_judged : (k : ℕ) → RosterSound b k → k < roster_count b → Faulty ⊎ SerialSound b k
@@ -513,13 +516,13 @@ module _ (alias : ℕ → ℕ) (b : List ℕ) where
       n = S.length_serials k (drop 6 b)
 
       go : Dec (length b < 6 + 4 * suc k) → Dec (roster_serial b k ≡ 0) → (t : Bool) → holds (roster_serial b k) (serials k (drop 6 b)) ≡ t → Faulty ⊎ SerialSound b k
-      go (yes l) z t e = inl (1, serial_cut s h l)
-      go (no l) (yes z) t e = inl (4, serial_zero s h (omega arith) z)
+      go (yes l) z t e = inl (R.EndsEarly, serial_cut s h l)
+      go (no l) (yes z) t e = inl (R.ZeroSerial, serial_zero s h (omega arith) z)
       go (no l) (no z) true e =
           let p : ℕ = place_of (roster_serial b k) (serials k (drop 6 b)) in
           let m : p < length (serials k (drop 6 b)) = holds_below (roster_serial b k) (serials k (drop 6 b)) e in
           let i : p < k = omega (arith, m, n) in
-          inl (5, serial_twice s h (omega arith) z i (sym (listed b k p i) ∙ place_at_lem (roster_serial b k) (serials k (drop 6 b)) m))
+          inl (R.Twice, serial_twice s h (omega arith) z i (sym (listed b k p i) ∙ place_at_lem (roster_serial b k) (serials k (drop 6 b)) m))
       go (no l) (no z) false e =
           inr (record {
             there = omega arith;
@@ -537,14 +540,14 @@ module _ (alias : ℕ → ℕ) (b : List ℕ) where
     where
       go : (t : Bool) → is_on alias (roster b) (own b) ≡ t → Faulty ⊎ HeadSound alias b
       go true e = inr (record { roster = s; on = (place_on alias (roster b) (own b), place_stands alias b (own b) e) })
-      go false e = inl (6, own_off s (off_roster_lem alias b s (own b) e))
+      go false e = inl (R.NotOnRoster, own_off s (off_roster_lem alias b s (own b) e))
 
   mourned_count_judged : HeadSound alias b → Faulty ⊎ MournedCountSound alias b
   mourned_count_judged s = go (dec_lt (length b) (tail_at b + 1)) (dec_lt (roster_count b) (mourned_count b))
     where
       go : Dec (length b < tail_at b + 1) → Dec (roster_count b < mourned_count b) → Faulty ⊎ MournedCountSound alias b
-      go (yes l) h = inl (1, no_mourned_count s l)
-      go (no l) (yes h) = inl (3, mourned_count_above s (omega arith) h)
+      go (yes l) h = inl (R.EndsEarly, no_mourned_count s l)
+      go (no l) (yes h) = inl (R.BadCount, mourned_count_above s (omega arith) h)
       go (no l) (no h) = inr (record { head = s; there = omega arith; few = omega arith })
 
   mourned_judged : (k : ℕ) → TailSound alias b k → k < mourned_count b → Faulty ⊎ MournedSound alias b k
@@ -557,11 +560,11 @@ module _ (alias : ℕ → ℕ) (b : List ℕ) where
 
       go : Dec (length b < mourned_at b (suc k)) → Dec (mourned_serial b k ≡ 0) → (t : Bool) → is_on alias (roster b) (mourned_serial b k) ≡ t
           → ((i : ℕ) × (i < k) × (place_at alias b k ≤ place_at alias b i)) ⊎ ((i : ℕ) → i < k → place_at alias b i < place_at alias b k) → Faulty ⊎ MournedSound alias b k
-      go (yes l) z t e w = inl (1, mourned_cut s h l)
-      go (no l) (yes z) t e w = inl (4, mourned_zero s h (omega arith) z)
-      go (no l) (no z) false e w = inl (6, mourned_off s h (omega arith) z (off_roster_lem alias b r (mourned_serial b k) e))
+      go (yes l) z t e w = inl (R.EndsEarly, mourned_cut s h l)
+      go (no l) (yes z) t e w = inl (R.ZeroSerial, mourned_zero s h (omega arith) z)
+      go (no l) (no z) false e w = inl (R.NotOnRoster, mourned_off s h (omega arith) z (off_roster_lem alias b r (mourned_serial b k) e))
       go (no l) (no z) true e (inl w) =
-          inl (7, mourned_order s h (omega arith) z (place_stands alias b (mourned_serial b k) e) w.1 (stands_at alias b r w.0 (s.each w.0 w.1)) w.2)
+          inl (R.OutOfOrder, mourned_order s h (omega arith) z (place_stands alias b (mourned_serial b k) e) w.1 (stands_at alias b r w.0 (s.each w.0 w.1)) w.2)
       go (no l) (no z) true e (inr w) =
           inr (record {
             there = omega arith;
@@ -584,7 +587,7 @@ module _ (alias : ℕ → ℕ) (b : List ℕ) where
   end_judged s = go (dec_lt (mourned_at b (mourned_count b)) (length b))
     where
       go : Dec (mourned_at b (mourned_count b) < length b) → Faulty ⊎ SoundBytes alias b
-      go (yes l) = inl (8, follows s l)
+      go (yes l) = inl (R.BytesAfter, follows s l)
       go (no l) = inr (record { tail = s; ends = omega (arith, all_there (mourned_count b) s) })
 
   judged : Faulty ⊎ SoundBytes alias b
@@ -603,11 +606,11 @@ module _ (alias : ℕ → ℕ) (b : List ℕ) where
 
 -- ---- the reader answers just by the faults
 
-refused_one : (i j : ℕ) → ◌≡◌ {A = Parsed Stored} (refused i) (refused j) → i ≡ j
+refused_one : (i j : Refusal) → ◌≡◌ {A = Parsed Stored} (refused i) (refused j) → i ≡ j
 refused_one i j e = cc
 
 -- the reader refuses by j just where the first fault of the bytes is j
-pub fault_iff : (alias : ℕ → ℕ) (b : List ℕ) (j : ℕ) → (lone alias b ≡ refused j) ↔ Fault alias b j
+pub fault_iff : (alias : ℕ → ℕ) (b : List ℕ) (j : Refusal) → (lone alias b ≡ refused j) ↔ Fault alias b j
 fault_iff alias b j = (λ e. ⊎_elim (faulty e) (sound e) (judged alias b), refuses alias b j)
   where
     faulty : lone alias b ≡ refused j → Faulty alias b → Fault alias b j

@@ -1,4 +1,7 @@
 -- Laws of the layout, section by section: it reads what it lays down, and what the bytes were where it reads. Assumes nothing.
+use Rattle.refusals.specs.declared.Refusal.{Refusal}
+use Rattle.refusals.specs.declared.Refusal.TheVariants as R
+use Rattle.std.specs.Prelude.{Result, Ok, Err}
 use mathlib.Core.Path.{◌≡◌, refl, sym, ap, ap₂, subst, fun_ext, ◌∙◌}
 use mathlib.Core.Bool.{Bool, true, false, not, cond, ◌&&◌, ◌||◌, or-true, or-false, and-true, and-false}
 use mathlib.Core.Logic.{◌⊎◌, inl, inr}
@@ -41,7 +44,7 @@ pub then_got : {A B : Type 0} {p : Parsed A} (next : A → List ℕ → Parsed B
 unfolding then
 then_got next a s e = rw e
 
-pub check_yes : {A : Type 0} (b : Bool) (j : ℕ) (p : Parsed A) → b ≡ true → check b j p ≡ p
+pub check_yes : {A : Type 0} (b : Bool) (j : Refusal) (p : Parsed A) → b ≡ true → check b j p ≡ p
 unfolding check
 check_yes b j p e = rw e
 
@@ -51,7 +54,7 @@ unfolding then
 then_back (got a s) next b t e = (a, s, refl, e)
 then_back (refused j) next b t e = let z : ◌≡◌ {A = ℕ} 0 1 = cc in absurd (omega arith)
 
-pub check_back : {A : Type 0} (b : Bool) (j : ℕ) (p : Parsed A) (a : A) (t : List ℕ) → check b j p ≡ got a t → (b ≡ true) × (p ≡ got a t)
+pub check_back : {A : Type 0} (b : Bool) (j : Refusal) (p : Parsed A) (a : A) (t : List ℕ) → check b j p ≡ got a t → (b ≡ true) × (p ≡ got a t)
 unfolding check
 check_back true j p a t e = (refl, e)
 check_back false j p a t e = let z : ◌≡◌ {A = ℕ} 0 1 = cc in absurd (omega arith)
@@ -73,15 +76,15 @@ pub serial_read : (x : ℕ) (t : List ℕ) → ¬ (x ≡ 0) → x < 2 ^ 32 → s
 unfolding serial serial_bytes
 serial_read x t z h =
     let w : x / 16777216 % 256 * 16777216 + x / 65536 % 256 * 65536 + x / 256 % 256 * 256 + x % 256 ≡ x = word_serial x h in
-    check_yes _ 1 _ (le-leb 4 (suc (suc (suc (suc (length t))))) (omega arith))
-    ∙ check_yes _ 4 _ (not_intro (ne_eqb (x / 16777216 % 256 * 16777216 + x / 65536 % 256 * 65536 + x / 256 % 256 * 256 + x % 256) 0 (λ e. z (sym w ∙ e))))
+    check_yes _ R.EndsEarly _ (le-leb 4 (suc (suc (suc (suc (length t))))) (omega arith))
+    ∙ check_yes _ R.ZeroSerial _ (not_intro (ne_eqb (x / 16777216 % 256 * 16777216 + x / 65536 % 256 * 65536 + x / 256 % 256 * 256 + x % 256) 0 (λ e. z (sym w ∙ e))))
     ∙ ap (λ (v : ℕ). got v t) w
 
 pub serial_back : (s : List ℕ) (x : ℕ) (t : List ℕ) → serial s ≡ got x t → (4 ≤ length s) × (¬ (x ≡ 0)) × (x ≡ word_at s 0) × (t ≡ drop 4 s)
 unfolding serial
 serial_back s x t e =
-    let a = check_back (leb 4 (length s)) 1 (check (not (eqb (word_at s 0) 0)) 4 (got (word_at s 0) (drop 4 s))) x t e in
-    let b = check_back (not (eqb (word_at s 0) 0)) 4 (got (word_at s 0) (drop 4 s)) x t a.1 in
+    let a = check_back (leb 4 (length s)) R.EndsEarly (check (not (eqb (word_at s 0) 0)) R.ZeroSerial (got (word_at s 0) (drop 4 s))) x t e in
+    let b = check_back (not (eqb (word_at s 0) 0)) R.ZeroSerial (got (word_at s 0) (drop 4 s)) x t a.1 in
     let g : got (word_at s 0) (drop 4 s) ≡ got x t = b.1 in
     let v : word_at s 0 ≡ x = cc in
     let r : drop 4 s ≡ t = cc in
@@ -159,8 +162,8 @@ kind_known b e = go (eqb b 1) refl e
 pub kind_back : (s : List ℕ) (k : Kind) (t : List ℕ) → kind_section s ≡ got k t → s ≡ kind_byte k ∷ t
 unfolding kind_section
 kind_back s k t e =
-    let w = then_back (byte s) (λ b s₁. check (known_kind b) 2 (got (kind_of b) s₁)) k t e in
-    let c = check_back (known_kind w.0) 2 (got (kind_of w.0) w.1) k t w.3 in
+    let w = then_back (byte s) (λ b s₁. check (known_kind b) R.UnknownKind (got (kind_of b) s₁)) k t e in
+    let c = check_back (known_kind w.0) R.UnknownKind (got (kind_of w.0) w.1) k t w.3 in
     let g : got (kind_of w.0) w.1 ≡ got k t = c.1 in
     let r : w.1 ≡ t = cc in
     let b : kind_of w.0 ≡ k = cc in
@@ -178,7 +181,7 @@ roster_read (y ∷ ys) seen t a h =
     let one : (seen ++ (y ∷ [])) ++ ys ≡ seen ++ (y ∷ ys) = append_assoc seen (y ∷ []) ys in
     ap (roster_serials (suc (length ys)) seen) (append_assoc (serial_bytes y) (serials_bytes ys) t)
     ∙ then_got _ y (serials_bytes ys ++ t) (serial_read y (serials_bytes ys ++ t) (λ z. a.no_zero (length seen) on (is ∙ z)) (rw is at (h (length seen) on)))
-    ∙ check_yes _ 5 _ (not_intro (apart_seam seen y ys a))
+    ∙ check_yes _ R.Twice _ (not_intro (apart_seam seen y ys a))
     ∙ roster_read ys (seen ++ (y ∷ [])) t (rw one a) (rw one h)
     ∙ ap (λ (l : List ℕ). got l t) one
 
@@ -190,11 +193,11 @@ roster_back zero seen s r t a e =
     let w : s ≡ t = cc in
     (omega arith, sym w, sym v ∙ sym (append-nil seen), rw v at a)
 roster_back (suc n) seen s r t a e =
-    let w = then_back (serial s) (λ x s₁. check (not (holds x seen)) 5 (roster_serials n (seen ++ (x ∷ [])) s₁)) r t e in
+    let w = then_back (serial s) (λ x s₁. check (not (holds x seen)) R.Twice (roster_serials n (seen ++ (x ∷ [])) s₁)) r t e in
     let x : ℕ = w.0 in
     let s₁ : List ℕ = w.1 in
     let v = serial_back s x s₁ w.2 in
-    let c = check_back (not (holds x seen)) 5 (roster_serials n (seen ++ (x ∷ [])) s₁) r t w.3 in
+    let c = check_back (not (holds x seen)) R.Twice (roster_serials n (seen ++ (x ∷ [])) s₁) r t w.3 in
     let u = roster_back n (seen ++ (x ∷ [])) s₁ r t (apart_more seen x a v.1 (not_true (holds x seen) c.0)) c.1 in
     let d : s₁ ≡ drop 4 s = v.3 in (
       omega (arith, v.0, u.0, ap length d ∙ length-drop 4 s),
@@ -279,7 +282,7 @@ unfolding mourned_serials
 mourned_step alias m r from A x o t z h p on l =
     let w = own_place alias r x o p on in
     let g : from ≤ place_on alias r x = omega (arith, w.1) in
-    then_got _ x t (serial_read x t z h) ∙ check_yes _ 6 _ w.0 ∙ check_yes _ 7 _ (le-leb from (place_on alias r x) g)
+    then_got _ x t (serial_read x t z h) ∙ check_yes _ R.NotOnRoster _ w.0 ∙ check_yes _ R.OutOfOrder _ (le-leb from (place_on alias r x) g)
     ∙ ap (λ (k : ℕ). mourned_serials alias m r (suc k) (with k A) t) w.1
 
 -- M as far as a place
@@ -346,7 +349,7 @@ module _ (alias : ℕ → ℕ) (r : List ℕ) (a : Apart r) (few : (p : ℕ) →
   pub mourned_read : mourned_section alias r (length (chosen M r) ∷ (serials_bytes (chosen M r) ++ t)) ≡ got M t
   unfolding mourned_section then byte
   mourned_read =
-      check_yes _ 3 _ (le-leb (length (chosen M r)) (length r) (chosen_at_most M r))
+      check_yes _ R.BadCount _ (le-leb (length (chosen M r)) (length r) (chosen_at_most M r))
       ∙ ap (λ (l : List ℕ). mourned_serials alias (length l) r 0 nothing (serials_bytes l ++ t)) (sym (from_zero M r))
       ∙ ap (λ (S : Places). mourned_serials alias (length (chosen_from M 0 r)) r 0 S (serials_bytes (chosen_from M 0 r) ++ t)) (sym (up_none M))
       ∙ mourned_rest (length r) 0 0 (omega arith) (omega arith)
@@ -374,13 +377,13 @@ mourned_back alias zero r from A s S t z on e =
     let u : s ≡ t = cc in
     (omega arith, sym u, from_none S from r (rw w at z), λ k l. ap (λ (B : Places). B k) (sym w), rw w at on)
 mourned_back alias (suc m) r from A s S t z on e =
-    let w = then_back (serial s) (λ x s₁. check (is_on alias r x) 6 (check (leb from (place_on alias r x)) 7 (mourned_serials alias m r (suc (place_on alias r x)) (with (place_on alias r x) A) s₁))) S t e in
+    let w = then_back (serial s) (λ x s₁. check (is_on alias r x) R.NotOnRoster (check (leb from (place_on alias r x)) R.OutOfOrder (mourned_serials alias m r (suc (place_on alias r x)) (with (place_on alias r x) A) s₁))) S t e in
     let x : ℕ = w.0 in
     let s₁ : List ℕ = w.1 in
     let p : ℕ = place_on alias r x in
     let v = serial_back s x s₁ w.2 in
-    let c = check_back (is_on alias r x) 6 (check (leb from p) 7 (mourned_serials alias m r (suc p) (with p A) s₁)) S t w.3 in
-    let d = check_back (leb from p) 7 (mourned_serials alias m r (suc p) (with p A) s₁) S t c.1 in
+    let c = check_back (is_on alias r x) R.NotOnRoster (check (leb from p) R.OutOfOrder (mourned_serials alias m r (suc p) (with p A) s₁)) S t w.3 in
+    let d = check_back (leb from p) R.OutOfOrder (mourned_serials alias m r (suc p) (with p A) s₁) S t c.1 in
     let lp : p < length r = holds_below (stands_for alias r x) r c.0 in
     let lf : from ≤ p = leb-true from p d.0 in
     let u = mourned_back alias m r (suc p) (with p A) s₁ S t (λ k l. with_other A p k (λ q. omega arith) ∙ z k (omega arith)) (with_on A p r lp on) d.1 in
@@ -410,7 +413,7 @@ section_back alias r s M t e =
     let w = then_back (byte s) _ M t e in
     let m : ℕ = w.0 in
     let u : List ℕ = w.1 in
-    let c = check_back (leb m (length r)) 3 (mourned_serials alias m r 0 nothing u) M t w.3 in
+    let c = check_back (leb m (length r)) R.BadCount (mourned_serials alias m r 0 nothing u) M t w.3 in
     let v = mourned_back alias m r 0 nothing u M t (λ k l. refl) (λ k h. clash h refl) c.1 in
     let are : chosen M r ≡ map (stands_for alias r) (serials m u) = sym (from_zero M r) ∙ v.2 in
     let n : m ≡ length (chosen M r) = sym (ap length are ∙ length-map (serials m u) (stands_for alias r) ∙ length_serials m u) in
@@ -453,8 +456,8 @@ listing_back s r t e =
     let w = then_back (byte s) _ r t e in
     let n : ℕ = w.0 in
     let u : List ℕ = w.1 in
-    let c = check_back (leb 1 n) 3 (check (leb n 128) 3 (roster_serials n [] u)) r t w.3 in
-    let d = check_back (leb n 128) 3 (roster_serials n [] u) r t c.1 in
+    let c = check_back (leb 1 n) R.BadCount (check (leb n 128) R.BadCount (roster_serials n [] u)) r t w.3 in
+    let d = check_back (leb n 128) R.BadCount (roster_serials n [] u) r t c.1 in
     let v = roster_back n [] u r t apart_nil d.1 in
     let is : n ≡ length r = sym (ap length v.2 ∙ length_serials n u) in
     record {
@@ -485,7 +488,7 @@ head_back alias s h t e =
     let own : ℕ = b.0 in
     let c = then_back (roster_section b.1) _ h t b.3 in
     let r : List ℕ = c.0 in
-    let d = check_back (is_on alias r own) 6 _ h t c.3 in
+    let d = check_back (is_on alias r own) R.NotOnRoster _ h t c.3 in
     let v = serial_back a.1 own b.1 b.2 in
     let w : Listing b.1 r c.1 = listing_back b.1 r c.1 c.2 in
     let on : place_on alias r own < length r = holds_below (stands_for alias r own) r d.0 in

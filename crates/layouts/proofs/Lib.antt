@@ -12,6 +12,7 @@ pub mod Readings
 pub mod Lists
 pub mod Serials
 pub mod Layouts
+pub mod KindBytes
 pub mod Follows
 pub mod Trips
 pub mod Desks

@@ -1,4 +1,8 @@
 -- Reading and writing undo each other, on lists and in a buffer; how long a record is, where it lies, how it fails. Assumes nothing.
+use Rattle.refusals.specs.declared.Refusal.{Refusal}
+use Rattle.refusals.specs.Numbers.{number}
+use Rattle.refusals.specs.declared.Refusal.TheVariants as R
+use Rattle.std.specs.Prelude.{Result, Ok, Err}
 use mathlib.Core.Path.{◌≡◌, refl, sym, ap, ap₂, subst, ◌∙◌}
 use mathlib.Core.Bool.{Bool, true, false}
 use mathlib.Core.Logic.{◌↔◌}
@@ -16,7 +20,6 @@ use Rattle.histories.specs.declared.Kind.TheVariants.{Full}
 use Rattle.serials.specs.Rosters.{place_of}
 use Rattle.serials.specs.Seconds.{itself, stands_for}
 use Rattle.serials.proofs.Seconds.{stands_plain}
-use Rattle.layouts.specs.declared.Reading.TheVariants as R
 use Rattle.layouts.specs.Layout.{Parsed, got, refused, then, check, byte, serial, kind_section, roster_serials, roster_section, place_on, Head, head_section, mourned_serials, mourned_section, Stored, stored, lone, kind_byte, serial_bytes, serials_bytes, chosen, layout}
 use Rattle.layouts.specs.Records.{reading_of, reading, serials, put_at}
 use Rattle.layouts.proofs.Serials.{roster_apart, place_own}
@@ -74,7 +77,7 @@ module _ (alias : ℕ → ℕ) (x : Stored) (i : IsStored x) (rest : List ℕ) w
   roster_is_lem : (t : List ℕ) → roster_section (length x.roster ∷ (serials_bytes x.roster ++ t)) ≡ got x.roster t
   unfolding roster_section then byte
   roster_is_lem t =
-      check_yes _ 3 _ (le-leb 1 (length x.roster) i.roster.some) ∙ check_yes _ 3 _ (le-leb (length x.roster) 128 i.roster.few)
+      check_yes _ R.BadCount _ (le-leb 1 (length x.roster) i.roster.some) ∙ check_yes _ R.BadCount _ (le-leb (length x.roster) 128 i.roster.few)
       ∙ roster_read x.roster [] t (roster_apart x.roster i.roster) i.below
 
   head_is : (t : List ℕ) → head_section alias (kind_byte x.kind ∷ (serial_bytes (get_or x.roster x.own 0) ++ (length x.roster ∷ (serials_bytes x.roster ++ t)))) ≡ got (head_of (get_or x.roster x.own 0) x) t
@@ -86,7 +89,7 @@ module _ (alias : ℕ → ℕ) (x : Stored) (i : IsStored x) (rest : List ℕ) w
       then_got _ x.kind (serial_bytes own ++ s₂) (kind_read x.kind (serial_bytes own ++ s₂))
       ∙ then_got _ own s₂ (serial_read own s₂ (i.roster.no_zero x.own i.own) (i.below x.own i.own))
       ∙ then_got _ x.roster t (roster_is_lem t)
-      ∙ check_yes _ 6 _ (own_place alias x.roster own x.own p i.own).0
+      ∙ check_yes _ R.NotOnRoster _ (own_place alias x.roster own x.own p i.own).0
       ∙ ap (λ (o : ℕ). got (record { kind = x.kind; own = own; place = o; roster = x.roster }) t) (own_place alias x.roster own x.own p i.own).1
 
   pub read_layout : stored alias (layout x ++ rest) ≡ got x rest
@@ -131,7 +134,7 @@ pub lone_back : (alias : ℕ → ℕ) (s : List ℕ) (x : Stored) (rest : List �
 unfolding lone
 lone_back alias s x rest e =
     let w = then_back (stored alias s) _ x rest e in
-    let c = check_back (eqb (length w.1) 0) 8 (got w.0 w.1) x rest w.3 in
+    let c = check_back (eqb (length w.1) 0) R.BytesAfter (got w.0 w.1) x rest w.3 in
     let q : w.1 ≡ rest = cc in
     (w.2 ∙ c.1, sym q ∙ no_length w.1 (eqb-true (length w.1) 0 c.0))
   where
@@ -206,11 +209,11 @@ module _ (alias : ℕ → ℕ) (x : Stored) (i : IsStored x) (out : List ℕ) (a
 
   -- the same, word for word: the record ends where its bytes do
   pub read_back_is : reading alias (put_at at (layout x) out) at
-      ≡ R.Read (record { kind = x.kind; own = record { 0 = x.own }; roster = at + 6; count = length x.roster; mourned = packed x.mourned; next = at + length (layout x) })
+      ≡ Ok (record { kind = x.kind; own = record { 0 = x.own }; roster = at + 6; count = length x.roster; mourned = packed x.mourned; next = at + length (layout x) })
   unfolding reading_of
   read_back_is =
       let e : length out - length (drop (at + length (layout x)) out) ≡ at + length (layout x) = omega (arith, length-drop (at + length (layout x)) out) in
-      read_back ∙ ap (λ (n : ℕ). R.Read (record { kind = x.kind; own = record { 0 = x.own }; roster = at + 6; count = length x.roster; mourned = packed x.mourned; next = n })) e
+      read_back ∙ ap (λ (n : ℕ). Ok (record { kind = x.kind; own = record { 0 = x.own }; roster = at + 6; count = length x.roster; mourned = packed x.mourned; next = n })) e
 
 -- where a record's roster lies in its bytes, and where it ends
 module _ (alias : ℕ → ℕ) (s : List ℕ) (x : Stored) (rest : List ℕ) (w : Whole alias s x rest) where
@@ -277,14 +280,14 @@ write_back b at x rest h e =
 -- whatever refuses has a number from 1 to most
 abbrev Numbered : {A : Type 0} → ℕ → Parsed A → Type 0
 Numbered most (got a s) = Unit {0}
-Numbered most (refused j) = (1 ≤ j) × (j ≤ most)
+Numbered most (refused j) = (1 ≤ number j) × (number j ≤ most)
 
 then_numbered : {A B : Type 0} (most : ℕ) (p : Parsed A) (next : A → List ℕ → Parsed B) → Numbered most p → ((a : A) (s : List ℕ) → Numbered most (next a s)) → Numbered most (then p next)
 unfolding then
 then_numbered most (got a s) next g h = h a s
 then_numbered most (refused j) next g h = g
 
-check_numbered : {A : Type 0} (most : ℕ) (b : Bool) (j : ℕ) (p : Parsed A) → (1 ≤ j) × (j ≤ most) → Numbered most p → Numbered most (check b j p)
+check_numbered : {A : Type 0} (most : ℕ) (b : Bool) (j : Refusal) (p : Parsed A) → (1 ≤ number j) × (number j ≤ most) → Numbered most p → Numbered most (check b j p)
 unfolding check
 check_numbered most true j p l h = h
 check_numbered most false j p l h = l
@@ -298,22 +301,22 @@ module _ (alias : ℕ → ℕ) (most : ℕ) (six : 6 ≤ most) where
 
   serial_numbered : (s : List ℕ) → Numbered most (serial s)
   unfolding serial
-  serial_numbered s = check_numbered most _ 1 _ (omega arith, omega arith) (check_numbered most _ 4 _ (omega arith, omega arith) tt)
+  serial_numbered s = check_numbered most _ R.EndsEarly _ (omega arith, omega arith) (check_numbered most _ R.ZeroSerial _ (omega arith, omega arith) tt)
 
   serials_numbered : (n : ℕ) (seen s : List ℕ) → Numbered most (roster_serials n seen s)
   unfolding roster_serials
   serials_numbered zero seen s = tt
   serials_numbered (suc n) seen s =
-      then_numbered most (serial s) _ (serial_numbered s) (λ x s₁. check_numbered most _ 5 _ (omega arith, omega arith) (serials_numbered n (seen ++ (x ∷ [])) s₁))
+      then_numbered most (serial s) _ (serial_numbered s) (λ x s₁. check_numbered most _ R.Twice _ (omega arith, omega arith) (serials_numbered n (seen ++ (x ∷ [])) s₁))
 
   head_numbered : (s : List ℕ) → Numbered most (head_section alias s)
   unfolding head_section kind_section roster_section
   head_numbered s =
       then_numbered most (kind_section s) _
-      (then_numbered most (byte s) _ (byte_numbered s) (λ k s₁. check_numbered most _ 2 _ (omega arith, omega arith) tt))
+      (then_numbered most (byte s) _ (byte_numbered s) (λ k s₁. check_numbered most _ R.UnknownKind _ (omega arith, omega arith) tt))
       (λ k s₁. then_numbered most (serial s₁) _ (serial_numbered s₁) (λ own s₂. then_numbered most (roster_section s₂) _
-      (then_numbered most (byte s₂) _ (byte_numbered s₂) (λ n s₃. check_numbered most _ 3 _ (omega arith, omega arith) (check_numbered most _ 3 _ (omega arith, omega arith) (serials_numbered n [] s₃))))
-      (λ r s₃. check_numbered most _ 6 _ (omega arith, omega arith) tt)))
+      (then_numbered most (byte s₂) _ (byte_numbered s₂) (λ n s₃. check_numbered most _ R.BadCount _ (omega arith, omega arith) (check_numbered most _ R.BadCount _ (omega arith, omega arith) (serials_numbered n [] s₃))))
+      (λ r s₃. check_numbered most _ R.NotOnRoster _ (omega arith, omega arith) tt)))
 
 -- and in a whole record 7
 module _ (alias : ℕ → ℕ) (most : ℕ) (all : 7 ≤ most) where
@@ -324,23 +327,23 @@ module _ (alias : ℕ → ℕ) (most : ℕ) (all : 7 ≤ most) where
   unfolding mourned_serials
   mourned_numbered zero r from M s = tt
   mourned_numbered (suc m) r from M s =
-      then_numbered most (serial s) _ (serial_numbered alias most six_too s) (λ x s₁. check_numbered most _ 6 _ (omega arith, omega arith) (check_numbered most _ 7 _ (omega arith, omega arith)
+      then_numbered most (serial s) _ (serial_numbered alias most six_too s) (λ x s₁. check_numbered most _ R.NotOnRoster _ (omega arith, omega arith) (check_numbered most _ R.OutOfOrder _ (omega arith, omega arith)
       (mourned_numbered m r (suc (place_on alias r x)) (with (place_on alias r x) M) s₁)))
 
   stored_numbered : (s : List ℕ) → Numbered most (stored alias s)
   unfolding stored mourned_section
   stored_numbered s =
       then_numbered most (head_section alias s) _ (head_numbered alias most six_too s) (λ h s₁. then_numbered most (mourned_section alias h.roster s₁) _
-      (then_numbered most (byte s₁) _ (byte_numbered alias most six_too s₁) (λ m s₂. check_numbered most _ 3 _ (omega arith, omega arith) (mourned_numbered m h.roster 0 nothing s₂)))
+      (then_numbered most (byte s₁) _ (byte_numbered alias most six_too s₁) (λ m s₂. check_numbered most _ R.BadCount _ (omega arith, omega arith) (mourned_numbered m h.roster 0 nothing s₂)))
       (λ M s₂. tt))
 
-pub head_faults : (alias : ℕ → ℕ) (s : List ℕ) (j : ℕ) → head_section alias s ≡ refused j → (1 ≤ j) × (j ≤ 6)
+pub head_faults : (alias : ℕ → ℕ) (s : List ℕ) (j : Refusal) → head_section alias s ≡ refused j → (1 ≤ number j) × (number j ≤ 6)
 head_faults alias s j e = subst (Numbered 6) e (head_numbered alias 6 (omega arith) s)
 
-pub stored_faults : (alias : ℕ → ℕ) (s : List ℕ) (j : ℕ) → stored alias s ≡ refused j → (1 ≤ j) × (j ≤ 7)
+pub stored_faults : (alias : ℕ → ℕ) (s : List ℕ) (j : Refusal) → stored alias s ≡ refused j → (1 ≤ number j) × (number j ≤ 7)
 stored_faults alias s j e = subst (Numbered 7) e (stored_numbered alias 7 (omega arith) s)
 
-pub faults : (alias : ℕ → ℕ) (s : List ℕ) (j : ℕ) → lone alias s ≡ refused j → (1 ≤ j) × (j ≤ 8)
+pub faults : (alias : ℕ → ℕ) (s : List ℕ) (j : Refusal) → lone alias s ≡ refused j → (1 ≤ number j) × (number j ≤ 8)
 unfolding lone
 faults alias s j e =
-    subst (Numbered 8) e (then_numbered 8 (stored alias s) _ (stored_numbered alias 8 (omega arith) s) (λ x s₁. check_numbered 8 _ 8 _ (omega arith, omega arith) tt))
+    subst (Numbered 8) e (then_numbered 8 (stored alias s) _ (stored_numbered alias 8 (omega arith) s) (λ x s₁. check_numbered 8 _ R.BytesAfter _ (omega arith, omega arith) tt))

@@ -1,14 +1,14 @@
 -- What the ticket desk may see of a lone record (document 02, [5]): its kind, its own serial as stored, and the roster's serials without
 -- their count, as a part of the lent bytes. Whoever reads it all reads these sections first, and judges them alike (`Layout.antt`).
 -- Assumes nothing.
-use Rattle.std.specs.Prelude.{◌≡◌, List, [], ◌∷◌, ◌++◌, ℕ, ◌+◌, ◌*◌, length, get_or, take, drop}
+use Rattle.std.specs.Prelude.{◌≡◌, Result, Ok, Err, List, [], ◌∷◌, ◌++◌, ℕ, ◌+◌, ◌*◌, length, get_or, take, drop}
+use Rattle.refusals.specs.declared.Refusal.{Refusal}
 use Rattle.layouts.specs.declared.Sight.{Sight}
-use Rattle.layouts.specs.declared.Sight.TheVariants as S
 use Rattle.layouts.specs.Layout.{Parsed, got, refused, Head, head_section}
 
 -- the answer, and the slice that is handed back
 pub record Shown : Type 0 where
-  pub answer : Sight
+  pub answer : Result Sight Refusal
   pub roster : List ℕ
 
 -- n serials in a record's bytes: four bytes each, after those of the kind, the own serial and the roster's count
@@ -17,16 +17,16 @@ roster_part n s = take (n * 4) (drop 6 s)
 
 -- a record is judged as far as the roster's end, and what follows is left alone; where it is refused, the slice stays the one it was
 unfoldable pub shown_of : List ℕ → List ℕ → Parsed Head → Shown
-shown_of s before (got h rest) = record { answer = S.Seen h.kind (record { 0 = h.own }); roster = roster_part (length h.roster) s }
-shown_of s before (refused j) = record { answer = S.Refused j; roster = before }
+shown_of s before (got h rest) = record { answer = Ok (record { kind = h.kind; own = record { 0 = h.own } }); roster = roster_part (length h.roster) s }
+shown_of s before (refused j) = record { answer = Err j; roster = before }
 
 unfoldable pub shown_to_desk : (ℕ → ℕ) → List ℕ → List ℕ → Shown
 shown_to_desk alias s before = shown_of s before (head_section alias s)
 
 -- where the slice lies in memory, a block and an offset, by the answer: in the lent bytes, six on, so nothing is copied
-unfoldable pub lies_of : Sight → ℕ × ℕ → ℕ × ℕ → ℕ × ℕ
-lies_of (S.Seen kind own) bytes before = (bytes.0, 6 + bytes.1)
-lies_of (S.Refused j) bytes before = before
+unfoldable pub lies_of : Result Sight Refusal → ℕ × ℕ → ℕ × ℕ → ℕ × ℕ
+lies_of (Ok seen) bytes before = (bytes.0, 6 + bytes.1)
+lies_of (Err j) bytes before = before
 
 -- ---- what is secret
 

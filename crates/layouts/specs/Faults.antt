@@ -1,6 +1,8 @@
 -- The faults 1 to 8 of a record's bytes in document 01's words ('A stored record', 'Refusals'): for each, the bytes that have it and none before it, found from the front. Nothing
 -- here goes by the reader (Layout.antt); that the reader answers just by this is proved. Assumes nothing.
 use Rattle.std.specs.Prelude.{◌≡◌, ◌⊎◌, List, ℕ, suc, ◌+◌, ◌*◌, ◌<◌, ◌≤◌, length, get_or}
+use Rattle.refusals.specs.declared.Refusal.{Refusal}
+use Rattle.refusals.specs.declared.Refusal.TheVariants as R
 use Rattle.layouts.specs.Layout.{word_at}
 
 -- ---- where the sections stand
@@ -90,33 +92,33 @@ pub record TailSound (alias : ℕ → ℕ) (b : List ℕ) (j : ℕ) : Type 0 whe
 
 -- ---- the faults, each the first from the front
 
-pub data Fault (alias : ℕ → ℕ) (b : List ℕ) : ℕ → Type 0 where
+pub data Fault (alias : ℕ → ℕ) (b : List ℕ) : Refusal → Type 0 where
   -- 1: the bytes end early, before the kind, in the own serial, before a count, in a serial
-  no_kind : length b < 1 → Fault alias b 1
-  own_cut : KindSound b → length b < 5 → Fault alias b 1
-  no_roster_count : OwnSound b → length b < 6 → Fault alias b 1
-  serial_cut : {k : ℕ} → RosterSound b k → k < roster_count b → length b < 6 + 4 * suc k → Fault alias b 1
-  no_mourned_count : HeadSound alias b → length b < tail_at b + 1 → Fault alias b 1
-  mourned_cut : {j : ℕ} → TailSound alias b j → j < mourned_count b → length b < mourned_at b (suc j) → Fault alias b 1
+  no_kind : length b < 1 → Fault alias b R.EndsEarly
+  own_cut : KindSound b → length b < 5 → Fault alias b R.EndsEarly
+  no_roster_count : OwnSound b → length b < 6 → Fault alias b R.EndsEarly
+  serial_cut : {k : ℕ} → RosterSound b k → k < roster_count b → length b < 6 + 4 * suc k → Fault alias b R.EndsEarly
+  no_mourned_count : HeadSound alias b → length b < tail_at b + 1 → Fault alias b R.EndsEarly
+  mourned_cut : {j : ℕ} → TailSound alias b j → j < mourned_count b → length b < mourned_at b (suc j) → Fault alias b R.EndsEarly
   -- 2: kind unknown
-  unknown_kind : 1 ≤ length b → ¬ (get_or b 0 0 ≡ 1) → ¬ (get_or b 0 0 ≡ 2) → Fault alias b 2
+  unknown_kind : 1 ≤ length b → ¬ (get_or b 0 0 ≡ 1) → ¬ (get_or b 0 0 ≡ 2) → Fault alias b R.UnknownKind
   -- 3: roster count 0 or above 128, or mourned count above the roster count
-  roster_count_off : OwnSound b → 6 ≤ length b → (roster_count b ≡ 0) ⊎ (128 < roster_count b) → Fault alias b 3
-  mourned_count_above : HeadSound alias b → tail_at b + 1 ≤ length b → roster_count b < mourned_count b → Fault alias b 3
+  roster_count_off : OwnSound b → 6 ≤ length b → (roster_count b ≡ 0) ⊎ (128 < roster_count b) → Fault alias b R.BadCount
+  mourned_count_above : HeadSound alias b → tail_at b + 1 ≤ length b → roster_count b < mourned_count b → Fault alias b R.BadCount
   -- 4: a serial is 0
-  own_zero : KindSound b → 5 ≤ length b → own b ≡ 0 → Fault alias b 4
-  serial_zero : {k : ℕ} → RosterSound b k → k < roster_count b → 6 + 4 * suc k ≤ length b → roster_serial b k ≡ 0 → Fault alias b 4
-  mourned_zero : {j : ℕ} → TailSound alias b j → j < mourned_count b → mourned_at b (suc j) ≤ length b → mourned_serial b j ≡ 0 → Fault alias b 4
+  own_zero : KindSound b → 5 ≤ length b → own b ≡ 0 → Fault alias b R.ZeroSerial
+  serial_zero : {k : ℕ} → RosterSound b k → k < roster_count b → 6 + 4 * suc k ≤ length b → roster_serial b k ≡ 0 → Fault alias b R.ZeroSerial
+  mourned_zero : {j : ℕ} → TailSound alias b j → j < mourned_count b → mourned_at b (suc j) ≤ length b → mourned_serial b j ≡ 0 → Fault alias b R.ZeroSerial
   -- 5: a serial stands twice on the roster
-  serial_twice : {j k : ℕ} → RosterSound b k → k < roster_count b → 6 + 4 * suc k ≤ length b → ¬ (roster_serial b k ≡ 0) → j < k → roster_serial b j ≡ roster_serial b k → Fault alias b 5
+  serial_twice : {j k : ℕ} → RosterSound b k → k < roster_count b → 6 + 4 * suc k ≤ length b → ¬ (roster_serial b k ≡ 0) → j < k → roster_serial b j ≡ roster_serial b k → Fault alias b R.Twice
   -- 6: own or mourned serial not on the roster; own is judged when the roster has been read, before the mourned count
-  own_off : RosterSound b (roster_count b) → ¬ (OnRoster alias b (own b)) → Fault alias b 6
-  mourned_off : {j : ℕ} → TailSound alias b j → j < mourned_count b → mourned_at b (suc j) ≤ length b → ¬ (mourned_serial b j ≡ 0) → ¬ (OnRoster alias b (mourned_serial b j)) → Fault alias b 6
+  own_off : RosterSound b (roster_count b) → ¬ (OnRoster alias b (own b)) → Fault alias b R.NotOnRoster
+  mourned_off : {j : ℕ} → TailSound alias b j → j < mourned_count b → mourned_at b (suc j) ≤ length b → ¬ (mourned_serial b j ≡ 0) → ¬ (OnRoster alias b (mourned_serial b j)) → Fault alias b R.NotOnRoster
   -- 7: mourned serials repeated or out of roster order
   mourned_order : {i j p q : ℕ} → TailSound alias b j → j < mourned_count b → mourned_at b (suc j) ≤ length b → ¬ (mourned_serial b j ≡ 0) → StandsAt alias b (mourned_serial b j) p
-      → i < j → StandsAt alias b (mourned_serial b i) q → p ≤ q → Fault alias b 7
+      → i < j → StandsAt alias b (mourned_serial b i) q → p ≤ q → Fault alias b R.OutOfOrder
   -- 8: bytes follow a lone record
-  follows : TailSound alias b (mourned_count b) → mourned_at b (mourned_count b) < length b → Fault alias b 8
+  follows : TailSound alias b (mourned_count b) → mourned_at b (mourned_count b) < length b → Fault alias b R.BytesAfter
 
 -- a record that passes 1 to 8
 pub record SoundBytes (alias : ℕ → ℕ) (b : List ℕ) : Type 0 where

@@ -2,6 +2,8 @@
 -- from the front of a list of bytes and gives its value with the bytes after it, or the first fault. A record is read by what serials count
 -- as in a group (`alias`; document 02, [2]): `itself` where no place has a second serial. Assumes nothing.
 use Rattle.std.specs.Prelude.{Bool, true, false, not, cond, ◌||◌, List, [], ◌∷◌, ◌++◌, ℕ, zero, suc, ◌+◌, ◌*◌, ◌/◌, ◌%◌, length, get_or, drop, eqb, leb}
+use Rattle.refusals.specs.declared.Refusal.{Refusal}
+use Rattle.refusals.specs.declared.Refusal.TheVariants as R
 use Rattle.sets.specs.Sets.{Places, nothing, with}
 use Rattle.histories.specs.declared.Kind.{Kind}
 use Rattle.histories.specs.declared.Kind.TheVariants.{Full, Short}
@@ -10,7 +12,7 @@ use Rattle.serials.specs.Seconds.{stands_for}
 
 pub data Parsed (A : Type 0) : Type 0 where
   got : A → List ℕ → Parsed A
-  refused : ℕ → Parsed A
+  refused : Refusal → Parsed A
 
 -- one section after another
 unfoldable pub then : {A B : Type 0} → Parsed A → (A → List ℕ → Parsed B) → Parsed B
@@ -18,14 +20,14 @@ then (got a s) next = next a s
 then (refused j) next = refused j
 
 -- a test, and the fault where it fails
-unfoldable pub check : {A : Type 0} → Bool → ℕ → Parsed A → Parsed A
+unfoldable pub check : {A : Type 0} → Bool → Refusal → Parsed A → Parsed A
 check true j p = p
 check false j p = refused j
 
 -- ---- the parts of a section
 
 unfoldable pub byte : List ℕ → Parsed ℕ
-byte [] = refused 1
+byte [] = refused R.EndsEarly
 byte (x ∷ s) = got x s
 
 -- the number that four bytes spell, the highest first
@@ -34,7 +36,7 @@ word_at s at = get_or s at 0 * 16777216 + get_or s (at + 1) 0 * 65536 + get_or s
 
 -- a serial: all four bytes are there (1), and it is not 0 (4)
 unfoldable pub serial : List ℕ → Parsed ℕ
-serial s = check (leb 4 (length s)) 1 (check (not (eqb (word_at s 0) 0)) 4 (got (word_at s 0) (drop 4 s)))
+serial s = check (leb 4 (length s)) R.EndsEarly (check (not (eqb (word_at s 0) 0)) R.ZeroSerial (got (word_at s 0) (drop 4 s)))
 
 -- ---- the sections, in their order
 
@@ -46,16 +48,16 @@ unfoldable pub kind_of : ℕ → Kind
 kind_of k = cond (eqb k 1) Full Short
 
 unfoldable pub kind_section : List ℕ → Parsed Kind
-kind_section s = then (byte s) (λ k s₁. check (known_kind k) 2 (got (kind_of k) s₁))
+kind_section s = then (byte s) (λ k s₁. check (known_kind k) R.UnknownKind (got (kind_of k) s₁))
 
 -- n serials, no one of which stands before it (5)
 unfoldable pub roster_serials : ℕ → List ℕ → List ℕ → Parsed (List ℕ)
 roster_serials zero seen s = got seen s
-roster_serials (suc n) seen s = then (serial s) (λ x s₁. check (not (holds x seen)) 5 (roster_serials n (seen ++ (x ∷ [])) s₁))
+roster_serials (suc n) seen s = then (serial s) (λ x s₁. check (not (holds x seen)) R.Twice (roster_serials n (seen ++ (x ∷ [])) s₁))
 
 -- roster: a count from 1 to 128 (3), then that many serials
 unfoldable pub roster_section : List ℕ → Parsed (List ℕ)
-roster_section s = then (byte s) (λ n s₁. check (leb 1 n) 3 (check (leb n 128) 3 (roster_serials n [] s₁)))
+roster_section s = then (byte s) (λ n s₁. check (leb 1 n) R.BadCount (check (leb n 128) R.BadCount (roster_serials n [] s₁)))
 
 -- an own or a mourned serial on the record's roster: whether what it stands for is there, and its place
 abbrev pub is_on : (ℕ → ℕ) → List ℕ → ℕ → Bool
@@ -77,20 +79,20 @@ head_section alias s =
     then (kind_section s) (λ k s₁.
     then (serial s₁) (λ own s₂.
     then (roster_section s₂) (λ r s₃.
-    check (is_on alias r own) 6 (got (record { kind = k; own = own; place = place_on alias r own; roster = r }) s₃))))
+    check (is_on alias r own) R.NotOnRoster (got (record { kind = k; own = own; place = place_on alias r own; roster = r }) s₃))))
 
 -- m serials of the roster (6), at rising places from `from` on (7), which join the set M
 unfoldable pub mourned_serials : (ℕ → ℕ) → ℕ → List ℕ → ℕ → Places → List ℕ → Parsed Places
 mourned_serials alias zero r from M s = got M s
 mourned_serials alias (suc m) r from M s =
     then (serial s) (λ x s₁.
-    check (is_on alias r x) 6
-    (check (leb from (place_on alias r x)) 7
+    check (is_on alias r x) R.NotOnRoster
+    (check (leb from (place_on alias r x)) R.OutOfOrder
     (mourned_serials alias m r (suc (place_on alias r x)) (with (place_on alias r x) M) s₁)))
 
 -- mourned: a count of at most the roster's (3), then that many serials
 unfoldable pub mourned_section : (ℕ → ℕ) → List ℕ → List ℕ → Parsed Places
-mourned_section alias r s = then (byte s) (λ m s₁. check (leb m (length r)) 3 (mourned_serials alias m r 0 nothing s₁))
+mourned_section alias r s = then (byte s) (λ m s₁. check (leb m (length r)) R.BadCount (mourned_serials alias m r 0 nothing s₁))
 
 -- ---- a whole record, its serials as places
 
@@ -108,7 +110,7 @@ stored alias s =
 
 -- a lone record: nothing follows it (8)
 unfoldable pub lone : (ℕ → ℕ) → List ℕ → Parsed Stored
-lone alias s = then (stored alias s) (λ x s₁. check (eqb (length s₁) 0) 8 (got x s₁))
+lone alias s = then (stored alias s) (λ x s₁. check (eqb (length s₁) 0) R.BytesAfter (got x s₁))
 
 -- ---- the bytes of a record: own and mourned are first serials, whichever were read
 

@@ -1,19 +1,16 @@
 -- The reader and the writer in their steps: what the contracts of the inner functions cite. No public contract cites this file.
 -- Assumes nothing.
-use Rattle.std.specs.Prelude.{◌≡◌, Bool, true, cond, ◌&&◌, List, [], ℕ, zero, suc, ◌+◌, ◌-◌, ◌*◌, ◌≤◌, ◌<◌, length, get_or, take, drop, eqb, ltb}
+use Rattle.std.specs.Prelude.{◌≡◌, Bool, true, cond, Result, Ok, Err, ◌&&◌, List, [], ℕ, zero, suc, ◌+◌, ◌-◌, ◌*◌, ◌≤◌, ◌<◌, length, get_or, take, drop, eqb, ltb}
+use Rattle.refusals.specs.declared.Refusal.{Refusal}
+use Rattle.refusals.specs.declared.Refusal.TheVariants as R
 use Rattle.sets.specs.Sets.{Places}
 use Rattle.sets.specs.PlaceSets.{has, Words}
+use Rattle.sets.specs.declared.PlaceSet.{PlaceSet}
 use Rattle.histories.specs.declared.Kind.{Kind}
 use Rattle.serials.specs.Rosters.{first_repeat, first_fault}
-use Rattle.layouts.specs.declared.Owner.{Owner}
-use Rattle.layouts.specs.declared.Owner.TheVariants as O
+use Rattle.layouts.specs.declared.Sight.{Sight}
 use Rattle.layouts.specs.declared.Top.{Top}
-use Rattle.layouts.specs.declared.Heading.{Heading}
-use Rattle.layouts.specs.declared.Heading.TheVariants as H
-use Rattle.layouts.specs.declared.Mourned.{Mourned}
-use Rattle.layouts.specs.declared.Mourned.TheVariants as M
 use Rattle.layouts.specs.declared.Tail.{Tail}
-use Rattle.layouts.specs.declared.Tail.TheVariants as T
 use Rattle.layouts.specs.Layout.{Parsed, got, refused, then, check, word_at, serial, roster_serials, roster_section, is_on, place_on, Head, layout}
 
 -- ---- the head, by what was read before
@@ -21,41 +18,41 @@ use Rattle.layouts.specs.Layout.{Parsed, got, refused, then, check, word_at, ser
 -- from the roster on, where the own serial is known
 unfoldable pub roster_after : (ℕ → ℕ) → Kind → ℕ → List ℕ → Parsed Head
 roster_after alias k own s =
-    then (roster_section s) (λ r s₁. check (is_on alias r own) 6 (got (record { kind = k; own = own; place = place_on alias r own; roster = r }) s₁))
+    then (roster_section s) (λ r s₁. check (is_on alias r own) R.NotOnRoster (got (record { kind = k; own = own; place = place_on alias r own; roster = r }) s₁))
 
 -- from the own serial on
 unfoldable pub own_after : (ℕ → ℕ) → Kind → List ℕ → Parsed Head
 own_after alias k s = then (serial s) (λ own s₁. roster_after alias k own s₁)
 
 -- the head by its first two sections, and the bytes after them
-unfoldable pub owner_of : (ℕ → ℕ) → Owner → List ℕ → Parsed Head
-owner_of alias (O.Of k own) s = roster_after alias k own.0 s
-owner_of alias (O.Refused j) s = refused j
+unfoldable pub owner_of : (ℕ → ℕ) → Result Sight Refusal → List ℕ → Parsed Head
+owner_of alias (Ok o) s = roster_after alias o.kind o.own.0 s
+owner_of alias (Err j) s = refused j
 
-abbrev pub OwnerIn : Owner → ℕ → ℕ → Type 0
-OwnerIn (O.Of k own) end all = end ≤ all
-OwnerIn (O.Refused j) end all = Unit {0}
+-- a section by what was read of it: its value, and the bytes after it
+unfoldable pub section_by : {X A : Type 0} → Result X Refusal → (X → A) → (X → List ℕ) → Parsed A
+section_by (Ok x) value rest = got (value x) (rest x)
+section_by (Err j) value rest = refused j
 
--- a section by a fault's number: 0 is none
-unfoldable pub coded : {A : Type 0} → ℕ → A → List ℕ → Parsed A
-coded zero a s = got a s
-coded (suc j) a s = refused (suc j)
+-- the first fault of a roster of n serials, of which s are there, after those seen earlier; where they have none and some are missing,
+-- that the bytes end early
+unfoldable pub unless_cut : Bool → Result (Unit {0}) Refusal → Result (Unit {0}) Refusal
+unless_cut cut (Ok u) = cond cut (Err R.EndsEarly) (Ok u)
+unless_cut cut (Err j) = Err j
 
--- the first fault of a roster of n serials, of which s are there, after those seen earlier; 1 where they have none and some are
--- missing
-unfoldable pub roster_fault : ℕ → List ℕ → List ℕ → ℕ
-roster_fault n seen s = cond (eqb (first_fault seen s) 0) (cond (ltb (length s) n) 1 0) (first_fault seen s)
+unfoldable pub roster_fault : ℕ → List ℕ → List ℕ → Result (Unit {0}) Refusal
+roster_fault n seen s = unless_cut (ltb (length s) n) (first_fault seen s)
 
 -- the head of a record whose roster r, of n serials, stands at a position: the own serial is looked up on it
-unfoldable pub head_on : (ℕ → ℕ) → Kind → ℕ → ℕ → ℕ → List ℕ → Heading
+unfoldable pub head_on : (ℕ → ℕ) → Kind → ℕ → ℕ → ℕ → List ℕ → Result Top Refusal
 head_on alias k own at n r =
-    cond (is_on alias r own) (H.Found (record { kind = k; own = record { 0 = own }; place = record { 0 = place_on alias r own }; roster = at; count = n })) (H.Refused 6)
+    cond (is_on alias r own) (Ok (record { kind = k; own = record { 0 = own }; place = record { 0 = place_on alias r own }; roster = at; count = n })) (Err R.NotOnRoster)
 
 -- what a head that was found says of the bytes; its roster stands at the front of the list
-unfoldable pub head_of : Heading → List ℕ → List ℕ → Parsed Head
-head_of (H.Found h) b list =
+unfoldable pub head_of : Result Top Refusal → List ℕ → List ℕ → Parsed Head
+head_of (Ok h) b list =
     got (record { kind = h.kind; own = h.own.0; place = h.place.0; roster = take h.count list }) (drop (h.roster + h.count * 4) b)
-head_of (H.Refused j) b list = refused j
+head_of (Err j) b list = refused j
 
 -- its roster starts at a position, is there, fits, and has no repeat
 pub record Rostered (b : List ℕ) (at n : ℕ) (list : List ℕ) : Type 0 where
@@ -68,9 +65,9 @@ pub record Within (t : Top) (b : List ℕ) (at : ℕ) (list : List ℕ) : Type 0
   pub starts : t.roster ≡ at
   pub rostered : Rostered b at t.count list
 
-abbrev pub HeadIn : Heading → List ℕ → ℕ → List ℕ → Type 0
-HeadIn (H.Found h) b at list = Within h b at list
-HeadIn (H.Refused j) b at list = Unit {0}
+abbrev pub HeadIn : Result Top Refusal → List ℕ → ℕ → List ℕ → Type 0
+HeadIn (Ok h) b at list = Within h b at list
+HeadIn (Err j) b at list = Unit {0}
 
 -- the roster's section at a position is of this list, and without fault
 pub record Like (b : List ℕ) (at : ℕ) (list : List ℕ) : Type 0 where
@@ -82,21 +79,21 @@ pub record Like (b : List ℕ) (at : ℕ) (list : List ℕ) : Type 0 where
 
 -- ---- the mourned section
 
-unfoldable pub mourned_of : Mourned → List ℕ → Parsed Places
-mourned_of (M.Set m) s = got (has m) s
-mourned_of (M.Refused j) s = refused j
+unfoldable pub mourned_of : Result PlaceSet Refusal → List ℕ → Parsed Places
+mourned_of (Ok m) s = got (has m) s
+mourned_of (Err j) s = refused j
 
-abbrev pub MournedIn : Mourned → ℕ → ℕ → Type 0
-MournedIn (M.Set m) end all = (end ≤ all) × Words m
-MournedIn (M.Refused j) end all = Unit {0}
+abbrev pub MournedIn : Result PlaceSet Refusal → ℕ → ℕ → Type 0
+MournedIn (Ok m) end all = (end ≤ all) × Words m
+MournedIn (Err j) end all = Unit {0}
 
-unfoldable pub tail_of : Tail → List ℕ → Parsed Places
-tail_of (T.End m next) b = got (has m) (drop next b)
-tail_of (T.Refused j) b = refused j
+unfoldable pub tail_of : Result Tail Refusal → List ℕ → Parsed Places
+tail_of (Ok t) b = got (has t.mourned) (drop t.next b)
+tail_of (Err j) b = refused j
 
-abbrev pub TailIn : Tail → ℕ → Type 0
-TailIn (T.End m next) all = (next ≤ all) × Words m
-TailIn (T.Refused j) all = Unit {0}
+abbrev pub TailIn : Result Tail Refusal → ℕ → Type 0
+TailIn (Ok t) all = (t.next ≤ all) × Words t.mourned
+TailIn (Err j) all = Unit {0}
 
 -- ---- a roster in bytes, and a list
 

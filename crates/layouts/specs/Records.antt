@@ -1,29 +1,28 @@
 -- What the reader and the writer answer, and what each lent byte is afterwards: the definitions that the contracts cite.
 -- Assumes nothing.
-use Rattle.std.specs.Prelude.{Bool, true, false, cond, ◌&&◌, List, [], ◌∷◌, ◌++◌, ℕ, zero, suc, ◌+◌, ◌-◌, ◌*◌, length, take, drop, eqb, leb, ltb}
+use Rattle.std.specs.Prelude.{Bool, true, false, cond, Result, Ok, Err, ◌&&◌, List, [], ◌∷◌, ◌++◌, ℕ, zero, suc, ◌+◌, ◌-◌, ◌*◌, length, take, drop, eqb, leb, ltb}
 use Rattle.sets.specs.Sets.{Places}
 use Rattle.sets.specs.PlaceSets.{packed}
 use Rattle.histories.specs.declared.Kind.{Kind}
-use Rattle.layouts.specs.declared.Reading.{Reading}
-use Rattle.layouts.specs.declared.Reading.TheVariants as R
-use Rattle.layouts.specs.declared.Writing.{Writing}
-use Rattle.layouts.specs.declared.Writing.TheVariants as W
+use Rattle.refusals.specs.declared.Refusal.{Refusal}
+use Rattle.refusals.specs.declared.Refusal.TheVariants as R
+use Rattle.layouts.specs.declared.Record.{Record}
 use Rattle.layouts.specs.Layout.{Parsed, got, refused, word_at, Stored, stored, lone, layout}
 
 -- ---- reading
 
 -- the answer for a record that starts at a position of a list of bytes: the roster's serials stand 6 bytes on, and the record
 -- ends where the bytes after it start
-unfoldable pub reading_of : ℕ → ℕ → Parsed Stored → Reading
+unfoldable pub reading_of : ℕ → ℕ → Parsed Stored → Result Record Refusal
 reading_of all at (got x rest) =
-    R.Read (record { kind = x.kind; own = record { 0 = x.own }; roster = at + 6; count = length x.roster; mourned = packed x.mourned; next = all - length rest })
-reading_of all at (refused j) = R.Refused j
+    Ok (record { kind = x.kind; own = record { 0 = x.own }; roster = at + 6; count = length x.roster; mourned = packed x.mourned; next = all - length rest })
+reading_of all at (refused j) = Err j
 
 -- a record that starts at a position; a position past the end is bytes that end early
-unfoldable pub reading : (ℕ → ℕ) → List ℕ → ℕ → Reading
+unfoldable pub reading : (ℕ → ℕ) → List ℕ → ℕ → Result Record Refusal
 reading alias b at = reading_of (length b) at (stored alias (drop at b))
 
-unfoldable pub reading_lone : (ℕ → ℕ) → List ℕ → Reading
+unfoldable pub reading_lone : (ℕ → ℕ) → List ℕ → Result Record Refusal
 reading_lone alias b = reading_of (length b) 0 (lone alias b)
 
 -- ---- a roster in bytes, and a list
@@ -57,11 +56,11 @@ copied b at n list = cond (copiable b at n) (serials n (drop at b) ++ drop n lis
 
 -- the answer, and the buffer afterwards
 pub record Written : Type 0 where
-  pub answer : Writing
+  pub answer : Result ℕ Refusal
   pub buffer : List ℕ
 
-unfoldable pub unwritten : ℕ → List ℕ → Written
-unwritten j out = record { answer = W.Refused j; buffer = out }
+unfoldable pub unwritten : Refusal → List ℕ → Written
+unwritten j out = record { answer = Err j; buffer = out }
 
 -- some bytes laid into a buffer from a position on: every other byte is as it was
 unfoldable pub put_at : ℕ → List ℕ → List ℕ → List ℕ
@@ -70,11 +69,11 @@ put_at at bytes out = take at out ++ (bytes ++ drop (at + length bytes) out)
 -- the bytes laid down from a position on, or 13 where the buffer ends before they do
 unfoldable pub written_at : List ℕ → List ℕ → ℕ → Written
 written_at bytes out at =
-    cond (leb (at + length bytes) (length out)) (record { answer = W.Next (at + length bytes); buffer = put_at at bytes out }) (unwritten 13 out)
+    cond (leb (at + length bytes) (length out)) (record { answer = Ok (at + length bytes); buffer = put_at at bytes out }) (unwritten R.TooShort out)
 
 -- the record of the place own with the mourned places M: 12, 3, 13, or laid down
 unfoldable pub written : Kind → ℕ → List ℕ → Places → List ℕ → ℕ → Written
 written k own roster M out at =
     cond (ltb own (length roster))
-    (cond (leb (length roster) 128) (written_at (layout (record { kind = k; own = own; roster = roster; mourned = M })) out at) (unwritten 3 out))
-    (unwritten 12 out)
+    (cond (leb (length roster) 128) (written_at (layout (record { kind = k; own = own; roster = roster; mourned = M })) out at) (unwritten R.BadCount out))
+    (unwritten R.OffRoster out)

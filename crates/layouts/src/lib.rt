@@ -4,11 +4,11 @@
 
 use histories::Kind;
 use serials::Serial;
-use sets::{Found, Place, PlaceSet};
+use sets::{Place, PlaceSet};
 
 // A record that was read: its serials are places, and its roster stays in the lent bytes, `count` serials from position
 // `roster` on. The record ends before position `next`.
-#[derive(Clone, Copy)]
+#[derive(Clone, Copy, Debug, PartialEq, Eq)]
 pub struct Record {
     pub kind: Kind,
     pub own: Place,
@@ -18,45 +18,11 @@ pub struct Record {
     pub next: usize,
 }
 
-#[derive(Clone, Copy)]
-pub enum Reading {
-    Read(Record),
-    Refused(u8),
-}
-
-// What the ticket desk may see of a record besides its roster: its kind, and its own serial as stored.
-#[derive(Clone, Copy)]
-pub enum Sight {
-    Seen(Kind, Serial),
-    Refused(u8),
-}
-
-// What the writer says: where the record ends, or the refusal.
-#[derive(Clone, Copy)]
-pub enum Writing {
-    Next(usize),
-    Refused(u8),
-}
-
-// A serial in a record: it, or the fault that its four bytes have; a fault of 0 is none.
-#[derive(Clone, Copy)]
-pub struct SerialRead {
-    pub fault: u8,
-    pub serial: Serial,
-}
-
-// A roster in a record: how many serials it has, or its first fault; a fault of 0 is none.
-#[derive(Clone, Copy)]
-pub struct RosterRead {
-    pub fault: u8,
-    pub count: usize,
-}
-
-// Whose record it is: its kind and its own serial.
-#[derive(Clone, Copy)]
-pub enum Owner {
-    Of(Kind, Serial),
-    Refused(u8),
+// Whose record it is: its kind, and its own serial as stored. The ticket desk sees no more of it besides its roster.
+#[derive(Clone, Copy, Debug, PartialEq, Eq)]
+pub struct Sight {
+    pub kind: Kind,
+    pub own: Serial,
 }
 
 // A record as far as its roster's end.
@@ -69,22 +35,9 @@ pub struct Top {
     pub count: usize,
 }
 
+// The places of a mourned section, and where it ends.
 #[derive(Clone, Copy)]
-pub enum Heading {
-    Found(Top),
-    Refused(u8),
-}
-
-// The serials of a mourned section, as places.
-#[derive(Clone, Copy)]
-pub enum Mourned {
-    Set(PlaceSet),
-    Refused(u8),
-}
-
-// A mourned section, and where it ends.
-#[derive(Clone, Copy)]
-pub enum Tail {
-    End(PlaceSet, usize),
-    Refused(u8),
+pub struct Tail {
+    pub mourned: PlaceSet,
+    pub next: usize,
 }

@@ -3,43 +3,53 @@
 #![tactic(auto)]
 
 ghost use Rattle.std.specs.Prelude.{◌≡◌, ◌++◌, ◌+◌, ◌≤◌, length};
+ghost use Rattle.refusals.specs.Numbers as numbers;
 ghost use Rattle.layouts.specs.Records.{written_at};
 ghost use Rattle.layouts.specs.Fronts.{front};
 ghost use Rattle.transcripts.specs.Lines.{ascii, decimal, line, record_line, place_line, whole_line, none_line};
 
-use answers::Reply;
-use calls::Asked;
-use layouts::Writing;
+use answers::{Answer, Reply};
+use refusals::Refusal;
 use serials::Serial;
 
 // The line of the record with this number, from 1.
-pub fn put_record(out: &mut [u8], at: usize, number: u64, answer: Reply) -> Writing
+pub fn put_record(
+    out: &mut [u8],
+    at: usize,
+    number: u64,
+    answer: Result<Reply, Refusal>,
+) -> Result<usize, Refusal>
     ensures value { result ≡ (written_at (record_line number answer) out.old at).answer }
     ensures out_after { out.new ≡ (written_at (record_line number answer) out.old at).buffer }
 {
     match answer {
-        Reply::Taken => put_numbered(out, at, b"record ", number, b" taken"),
-        Reply::Repeated => put_numbered(out, at, b"record ", number, b" repeated"),
-        Reply::Refused(refusal) => put_refused(out, at, b"record ", number, refusal),
+        Ok(Reply::Taken) => put_numbered(out, at, b"record ", number, b" taken"),
+        Ok(Reply::Repeated) => put_numbered(out, at, b"record ", number, b" repeated"),
+        Err(refusal) => put_refused(out, at, b"record ", number, refusal),
     }
 }
 
 // The line of a place: its serial, and its answer.
-pub fn put_place(out: &mut [u8], at: usize, serial: Serial, answer: Asked) -> Writing
+pub fn put_place(
+    out: &mut [u8],
+    at: usize,
+    serial: Serial,
+    answer: Result<Answer, Refusal>,
+) -> Result<usize, Refusal>
     ensures value { result ≡ (written_at (place_line serial.0 answer) out.old at).answer }
     ensures out_after { out.new ≡ (written_at (place_line serial.0 answer) out.old at).buffer }
 {
     let number = serial.0 as u64;
     match answer {
-        Asked::Last => put_numbered(out, at, b"", number, b" last"),
-        Asked::NotLast => put_numbered(out, at, b"", number, b" not"),
-        Asked::Open => put_numbered(out, at, b"", number, b" open"),
-        Asked::Refused(refusal) => put_refused(out, at, b"", number, refusal),
+        Ok(Answer::Last) => put_numbered(out, at, b"", number, b" last"),
+        Ok(Answer::NotLast) => put_numbered(out, at, b"", number, b" not"),
+        Ok(Answer::Open) => put_numbered(out, at, b"", number, b" open"),
+        Err(refusal) => put_refused(out, at, b"", number, refusal),
     }
 }
 
 // The last line: whether the whole is settled.
-pub fn put_whole(out: &mut [u8], at: usize, settled: bool) -> Writing
+pub fn put_whole(out: &mut [u8], at: usize, settled: bool) -> Result<usize, Refusal>
     ensures value { result ≡ (written_at (whole_line settled) out.old at).answer }
     ensures out_after { out.new ≡ (written_at (whole_line settled) out.old at).buffer }
 {
@@ -51,23 +61,11 @@ pub fn put_whole(out: &mut [u8], at: usize, settled: bool) -> Writing
 }
 
 // The line that stands for all of these where no recovery was opened.
-pub fn put_none(out: &mut [u8], at: usize) -> Writing
+pub fn put_none(out: &mut [u8], at: usize) -> Result<usize, Refusal>
     ensures value { result ≡ (written_at none_line out.old at).answer }
     ensures out_after { out.new ≡ (written_at none_line out.old at).buffer }
 {
     put_text(out, at, b"no records")
-}
-
-// Lays a text into the front of `out`.
-fn lay_text(out: &mut [u8], text: &[u8])
-    requires { length text.now ≤ length out.old }
-    ensures { out.new ≡ front text.now out.old }
-{
-    let mut i = 0;
-    while i < text.len() {
-        out[i] = text[i];
-        i += 1;
-    }
 }
 
 // Lays the last text of a line into the front of `out`, and the byte that ends the line.
@@ -75,9 +73,9 @@ fn lay_last(out: &mut [u8], text: &[u8])
     requires { length text.now + 1 ≤ length out.old }
     ensures { out.new ≡ front (line text.now) out.old }
 {
-    lay_text(&mut out[..], text);
     let end = text.len();
-    out[end] = 10;
+    out[..end].copy_from_slice(text);
+    out[end] = b'\n';
 }
 
 // How many digits a number has in decimal.
@@ -85,13 +83,7 @@ fn count_digits(number: u64) -> usize
     ensures value { result ≡ length (decimal number) }
     ensures upper_bound { result ≤ 20 }
 {
-    let mut left = number;
-    let mut count = 1;
-    while 9 < left {
-        left = left / 10;
-        count += 1;
-    }
-    count
+    number.max(1).ilog10() as usize + 1
 }
 
 // Lays the `count` digits of a number into the front of `out`, from the last to the first.
@@ -101,12 +93,9 @@ fn lay_decimal(out: &mut [u8], number: u64, count: usize)
     ensures { out.new ≡ front (decimal number) out.old }
 {
     let mut left = number;
-    let mut i = 0;
-    while i < count {
-        let place = count - 1 - i;
-        out[place] = 48 + (left % 10) as u8;
-        left = left / 10;
-        i += 1;
+    for place in (0..count).rev() {
+        out[place] = b'0' + (left % 10) as u8;
+        left /= 10;
     }
 }
 
@@ -116,15 +105,21 @@ fn lay_numbered(out: &mut [u8], head: &[u8], number: u64, count: usize, tail: &[
     requires tail_in_bounds { length head.now + count + length tail.now + 1 ≤ length out.old }
     ensures { out.new ≡ front (line (head.now ++ (decimal number ++ tail.now))) out.old }
 {
-    lay_text(&mut out[..], head);
     let p = head.len();
+    out[..p].copy_from_slice(head);
     lay_decimal(&mut out[p..], number, count);
     let q = p + count;
     lay_last(&mut out[q..], tail);
 }
 
 // A line with a number in it, from a position on. The bounds keep the sum of the lengths from wrapping.
-fn put_numbered(out: &mut [u8], at: usize, head: &[u8], number: u64, tail: &[u8]) -> Writing
+fn put_numbered(
+    out: &mut [u8],
+    at: usize,
+    head: &[u8],
+    number: u64,
+    tail: &[u8],
+) -> Result<usize, Refusal>
     requires head_len_bound { length head.now ≤ 7 }
     requires tail_len_bound { length tail.now ≤ 12 }
     ensures value { result ≡ (written_at (line (head.now ++ (decimal number ++ tail.now))) out.old at).answer }
@@ -133,41 +128,48 @@ fn put_numbered(out: &mut [u8], at: usize, head: &[u8], number: u64, tail: &[u8]
     let count = count_digits(number);
     let size = head.len() + count + tail.len() + 1;
     if out.len() < at {
-        return Writing::Refused(13);
+        return Err(Refusal::TooShort);
     }
     if out.len() - at < size {
-        return Writing::Refused(13);
+        return Err(Refusal::TooShort);
     }
     lay_numbered(&mut out[at..], head, number, count, tail);
-    Writing::Next(at + size)
+    Ok(at + size)
 }
 
 // The same line with a refusal for its tail.
-fn put_refused(out: &mut [u8], at: usize, head: &[u8], number: u64, refusal: u8) -> Writing
+fn put_refused(
+    out: &mut [u8],
+    at: usize,
+    head: &[u8],
+    number: u64,
+    refusal: Refusal,
+) -> Result<usize, Refusal>
     requires { length head.now ≤ 7 }
-    ensures value { result ≡ (written_at (line (head.now ++ (decimal number ++ (ascii " refused " ++ decimal refusal)))) out.old at).answer }
-    ensures out_after { out.new ≡ (written_at (line (head.now ++ (decimal number ++ (ascii " refused " ++ decimal refusal)))) out.old at).buffer }
+    ensures value { result ≡ (written_at (line (head.now ++ (decimal number ++ (ascii " refused " ++ decimal (numbers.number refusal))))) out.old at).answer }
+    ensures out_after { out.new ≡ (written_at (line (head.now ++ (decimal number ++ (ascii " refused " ++ decimal (numbers.number refusal))))) out.old at).buffer }
 {
-    let mut tail = [0; 12];
-    lay_text(&mut tail, b" refused ");
-    let count = count_digits(refusal as u64);
-    lay_decimal(&mut tail[9..], refusal as u64, count);
+    // a byte has at most three digits, which go where the zeros stand
+    let mut tail = *b" refused 000";
+    let code = refusal as u64;
+    let count = count_digits(code);
+    lay_decimal(&mut tail[9..], code, count);
     let end = 9 + count;
     put_numbered(out, at, head, number, &tail[..end])
 }
 
 // A line of one text, from a position on.
-fn put_text(out: &mut [u8], at: usize, text: &[u8]) -> Writing
+fn put_text(out: &mut [u8], at: usize, text: &[u8]) -> Result<usize, Refusal>
     ensures value { result ≡ (written_at (line text.now) out.old at).answer }
     ensures out_after { out.new ≡ (written_at (line text.now) out.old at).buffer }
 {
     let size = text.len() + 1;
     if out.len() < at {
-        return Writing::Refused(13);
+        return Err(Refusal::TooShort);
     }
     if out.len() - at < size {
-        return Writing::Refused(13);
+        return Err(Refusal::TooShort);
     }
     lay_last(&mut out[at..], text);
-    Writing::Next(at + size)
+    Ok(at + size)
 }

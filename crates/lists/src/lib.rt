@@ -6,7 +6,7 @@ ghost use Rattle.sets.specs.PlaceSets.{bit, has};
 ghost use Rattle.answers.specs.Views.{size, accepted_in};
 ghost use Rattle.answers.specs.Lists.{laid, listed_in, byte_by, joined};
 
-use answers::Listing;
+use refusals::Refusal;
 use rows::Rows;
 use sets::PlaceSet;
 
@@ -25,28 +25,21 @@ fn put_eight(out: &mut [u8], bytes: u64)
     requires { 8 ≤ length out.old }
     ensures { out.new ≡ laid 8 (λ j. bytes / 2 ^ (8 * j) % 256) out.old }
 {
-    let mut rest = bytes;
-    let mut j = 0;
-    while j < 8 {
-        out[j] = (rest % 256) as u8;
-        rest >>= 8;
-        j += 1;
-    }
+    out[..8].copy_from_slice(&bytes.to_le_bytes());
 }
 
-// Lays the bytes of n places of one word one by one, by the digits of two words.
+// Lays the bytes of n places of one word one by one, by the digits of two words. The number stays beside the buffer here and below:
+// must-fail/lay_few_one_more lays one byte too many by it.
 fn lay_few(out: &mut [u8], n: usize, last: u64, open: u64)
     requires { n ≤ length out.old }
     ensures { out.new ≡ laid n (byte_by (bit last) (bit «open»)) out.old }
 {
     let mut l = last;
     let mut o = open;
-    let mut i = 0;
-    while i < n {
+    for i in 0..n {
         out[i] = (l % 2 + 2 * (o % 2)) as u8;
         l >>= 1;
         o >>= 1;
-        i += 1;
     }
 }
 
@@ -57,15 +50,14 @@ fn lay_word(out: &mut [u8], n: usize, last: u64, open: u64)
 {
     let mut l = last;
     let mut o = open;
-    let mut i = 0;
-    while 8 <= n - i {
+    for k in 0..n / 8 {
         let bytes = spread(l % 256) + 2 * spread(o % 256);
-        put_eight(&mut out[i..], bytes);
+        put_eight(&mut out[8 * k..], bytes);
         l >>= 8;
         o >>= 8;
-        i += 8;
     }
-    lay_few(&mut out[i..], n - i, l, o);
+    let laid = n / 8 * 8;
+    lay_few(&mut out[laid..], n % 8, l, o);
 }
 
 // Lays the bytes of the first n places, by the last ones and the open ones.
@@ -90,17 +82,17 @@ pub fn list(
     earlier: PlaceSet,
     count: usize,
     out: &mut [u8],
-) -> Listing
+) -> Result<(), Refusal>
     ensures value { result ≡ (listed_in (size count) (accepted_in count (has returned) (has full) rows.now) (has mourned) (has earlier) out.old).answer }
     ensures out_after { out.new ≡ (listed_in (size count) (accepted_in count (has returned) (has full) rows.now) (has mourned) (has earlier) out.old).buffer }
 {
     let n = standings::size(count);
     if out.len() < n {
-        return Listing::Refused(13);
+        return Err(Refusal::TooShort);
     }
     let open = undecided::open_places(rows, returned, full, mourned, earlier, count);
     let unmourned = standings::unmourned(mourned, count);
     let last = places::difference(unmourned, open);
     lay(out, n, last, open);
-    Listing::Laid
+    Ok(())
 }

@@ -7,34 +7,28 @@ ghost use Rattle.serials.specs.Rosters.{place_of, place_from};
 ghost use Rattle.serials.specs.Seconds.{counts_as, finding_from};
 
 use serials::{Finding, Serial};
-use sets::{Found, Place};
+use sets::Place;
 
 // The place of a serial in a list.
-pub fn find(roster: &[u32], serial: Serial) -> Found
+pub fn find(roster: &[u32], serial: Serial) -> Option<Place>
     ensures { result ≡ found (length roster.now) (place_of serial.0 roster.now) }
 {
-    let x = serial.0;
-    let mut p = 0;
-    while p < roster.len() {
-        if roster[p] == x {
-            return Found::At(Place(p));
+    for (p, x) in roster.iter().enumerate() {
+        if *x == serial.0 {
+            return Some(Place(p));
         }
-        p += 1;
     }
-    Found::Nothing
+    None
 }
 
 // The same, looking from a place on first: where the serials come in roster order, a walk along the roster finds them all.
-fn find_from(roster: &[u32], from: usize, serial: Serial) -> Found
+fn find_from(roster: &[u32], from: usize, serial: Serial) -> Option<Place>
     ensures { result ≡ found (length roster.now) (place_from from serial.0 roster.now) }
 {
-    let x = serial.0;
-    let mut i = from;
-    while i < roster.len() {
-        if roster[i] == x {
-            return Found::At(Place(i));
+    for i in from..roster.len() {
+        if roster[i] == serial.0 {
+            return Some(Place(i));
         }
-        i += 1;
     }
     find(roster, serial)
 }
@@ -46,7 +40,7 @@ fn counts_as(firsts: &[u32], seconds: &[u32], serial: Serial) -> Serial
     if serial.0 == 0 {
         return serial;
     }
-    let Found::At(place) = find(seconds, serial) else {
+    let Some(place) = find(seconds, serial) else {
         return serial;
     };
     let p = place.0;
@@ -64,17 +58,13 @@ pub fn look_up(
     firsts: &[u32],
     seconds: &[u32],
     serial: Serial,
-) -> Finding
+) -> Option<Finding>
     ensures { result ≡ finding_from (counts_as firsts.now seconds.now) from roster.now serial.0 }
 {
-    match find_from(roster, from, serial) {
-        Found::At(place) => Finding::First(place),
-        Found::Nothing => {
-            let other = counts_as(firsts, seconds, serial);
-            match find_from(roster, from, other) {
-                Found::At(place) => Finding::Second(place),
-                Found::Nothing => Finding::Nothing,
-            }
-        }
+    if let Some(place) = find_from(roster, from, serial) {
+        return Some(Finding::First(place));
     }
+    let other = counts_as(firsts, seconds, serial);
+    let place = find_from(roster, from, other)?;
+    Some(Finding::Second(place))
 }

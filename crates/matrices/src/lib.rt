@@ -167,75 +167,30 @@ fn matrix(m: u32) -> u32 {
     m & 0xffff
 }
 
-fn put(out: &mut [u32; 1024], at: usize, m: u32) {
-    if at < 1024 {
-        out[at] = m;
-    }
-}
-
-fn one_if(b: bool) -> usize
-    ensures { result ≤ 1 }
-{
-    if b {
-        return 1;
-    }
-    0
-}
-
 // All histories of a roster, and how many there are: 543 at most.
 pub fn gather(n: usize, out: &mut [u32; 1024]) -> usize {
     let mut count = 0;
-    let mut m = 0u32;
-    while m < 65536 {
-        put(out, count, listed(m));
-        let one = one_if(is_history(n, m));
-        count += one;
-        m += 1;
+    for m in 0..65536 {
+        if is_history(n, m) && count < 1024 {
+            out[count] = listed(m);
+            count += 1;
+        }
     }
     count
 }
 
-fn one_if_fits(m: u32, mask: u32, rows: u32, empty: u32) -> usize
-    ensures { result ≤ 1 }
-{
-    if m & mask != rows {
-        return 0;
-    }
-    if m & empty != 0 {
-        return 0;
-    }
-    1
-}
-
 // How many histories of a list have these rows under the mask, and no bit of `empty`.
 fn count(list: &[u32], mask: u32, rows: u32, empty: u32) -> usize {
-    let mut n = 0;
-    let mut i = 0;
-    while i < list.len() {
-        let one = one_if_fits(list[i], mask, rows, empty);
-        n += one;
-        i += 1;
-    }
-    n
-}
-
-fn if_fits(m: u32, pile: Pile) -> u32 {
-    if m & pile.mask != pile.rows {
-        return 0;
-    }
-    matrix(m)
+    list.iter()
+        .filter(|m| **m & mask == rows && **m & empty == 0)
+        .count()
 }
 
 // The bits that stand in some history that fits.
 fn in_some(list: &[u32], pile: Pile) -> u32 {
-    let mut bits = 0;
-    let mut i = 0;
-    while i < list.len() {
-        let own = if_fits(list[i], pile);
-        bits |= own;
-        i += 1;
-    }
-    bits
+    list.iter()
+        .filter(|m| **m & pile.mask == pile.rows)
+        .fold(0, |bits, m| bits | matrix(*m))
 }
 
 // The pile with a record of place p: its row is the mourned set, and holds everyone before p where the record is full.

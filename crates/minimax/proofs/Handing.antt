@@ -1,5 +1,7 @@
 -- What the inner functions say of a recovery: who is absent, the kind of a numbered record, and its bytes in a buffer of 39, which every
 -- record of at most four places fits. Assumes nothing.
+use Rattle.refusals.specs.declared.Refusal.{Refusal}
+use Rattle.std.specs.Prelude.{Option, Some, None, Result, Ok, Err}
 use mathlib.Core.Path.{◌≡◌, refl, sym, ap, ap₂, ◌∙◌, fun_ext}
 use mathlib.Core.Bool.{Bool, true, false, not, cond, ◌&&◌}
 use mathlib.Core.List.{List, ◌++◌}
@@ -17,8 +19,6 @@ use Rattle.sets.proofs.Digits.{bit_zero, bit_high}
 use Rattle.histories.specs.declared.Kind.{Kind}
 use Rattle.answers.specs.Views.{size, accepted_in}
 use Rattle.answers.proofs.Views.{size_at_most}
-use Rattle.layouts.specs.declared.Writing.{Writing}
-use Rattle.layouts.specs.declared.Writing.TheVariants as W
 use Rattle.layouts.specs.Layout.{layout}
 use Rattle.layouts.specs.Records.{Written, put_at, written_at, written}
 use Rattle.layouts.proofs.Layouts.{length_layout, chosen_at_most}
@@ -31,16 +31,16 @@ use Rattle.games.specs.Games.{absent_of, kind_numbered, record_numbered, handed,
 
 -- ---- replies
 
-module _ (a : Reply) where
-  pub said_taken : a ≡ O.Taken → true ≡ is_taken a
+module _ (a : Result Reply Refusal) where
+  pub said_taken : a ≡ Ok O.Taken → true ≡ is_taken a
   unfolding is_taken
   said_taken e = rw e
 
-  pub said_repeated : a ≡ O.Repeated → false ≡ is_taken a
+  pub said_repeated : a ≡ Ok O.Repeated → false ≡ is_taken a
   unfolding is_taken
   said_repeated e = rw e
 
-  pub said_refused : (j : ℕ) → a ≡ O.Refused j → false ≡ is_taken a
+  pub said_refused : (j : Refusal) → a ≡ Err j → false ≡ is_taken a
   unfolding is_taken
   said_refused j e = rw e
 
@@ -85,7 +85,7 @@ module _ (r : Recovery) (p j : ℕ) (few : size_of r ≤ 4) (on : p < size_of r)
 
   module _ (fits : j < 2 ^ 64) (k : Kind) (kind : k ≡ kind_numbered j) (out : List ℕ) (long : length out ≡ 39) where
     -- so it is laid down
-    pub numbered_written : written k p (take n r.serials) (has (record { low = j / 2; high = 0 })) out 0 ≡ record { answer = W.Next (0 + length bytes); buffer = put_at 0 bytes out }
+    pub numbered_written : written k p (take n r.serials) (has (record { low = j / 2; high = 0 })) out 0 ≡ record { answer = Ok (0 + length bytes); buffer = put_at 0 bytes out }
     unfolding written written_at record_numbered
     numbered_written =
         let half : j / 2 < 2 ^ 64 = omega arith in
@@ -95,19 +95,19 @@ module _ (r : Recovery) (p j : ℕ) (few : size_of r ≤ 4) (on : p < size_of r)
         rw (lt-ltb p (length (take n r.serials)) on_it, le-leb (length (take n r.serials)) 128 short, kind, low_digits (j / 2) half, roster_is_lem, le-leb (0 + length bytes) (length out) room)
 
     -- and what stands before its end is its bytes
-    module _ (a : Writing) (after : List ℕ)
+    module _ (a : Result ℕ Refusal) (after : List ℕ)
         (w : (a ≡ (written k p (take n r.serials) (has (record { low = j / 2; high = 0 })) out 0).answer) × (after ≡ (written k p (take n r.serials) (has (record { low = j / 2; high = 0 })) out 0).buffer)) where
-      answer_is : a ≡ W.Next (0 + length bytes)
+      answer_is : a ≡ Ok (0 + length bytes)
       answer_is = w.0 ∙ ap (λ (w : Written). w.answer) numbered_written
 
       after_is : after ≡ bytes ++ drop (0 + length bytes) out
       unfolding put_at
       after_is = w.1 ∙ ap (λ (w : Written). w.buffer) numbered_written
 
-      module _ (end : ℕ) (e : a ≡ W.Next end) where
+      module _ (end : ℕ) (e : a ≡ Ok end) where
         end_is : end ≡ length bytes
         end_is =
-            let same : W.Next (0 + length bytes) ≡ W.Next end = sym answer_is ∙ e in
+            let same : Ok (0 + length bytes) ≡ Ok end = sym answer_is ∙ e in
             let f : 0 + length bytes ≡ end = cc in
             omega arith
 
@@ -119,8 +119,8 @@ module _ (r : Recovery) (p j : ℕ) (few : size_of r ≤ 4) (on : p < size_of r)
         handed_is o f = f ∙ ap (offered r) (ap₂ (λ (e : ℕ) (l : List ℕ). take e l) end_is after_is ∙ take-append_seam bytes (drop (0 + length bytes) out))
 
       -- it is not refused
-      pub never_refused : {A : Type 0} (x : ℕ) → a ≡ W.Refused x → A
+      pub never_refused : {A : Type 0} (x : Refusal) → a ≡ Err x → A
       never_refused x e =
-          let same : W.Next (0 + length bytes) ≡ W.Refused x = sym answer_is ∙ e in
+          let same : Ok (0 + length bytes) ≡ Err x = sym answer_is ∙ e in
           let z : ◌≡◌ {A = ℕ} 0 1 = cc in
           absurd (omega arith)

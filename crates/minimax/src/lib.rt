@@ -2,7 +2,7 @@
 // refused, and so on until the whole is settled. The crew looks for the fewest fetches, the hill for the most.
 #![tactic(auto)]
 
-ghost use Rattle.std.specs.Prelude.{◌≡◌, true, ◌-◌, ◌≤◌, ◌<◌, min, max};
+ghost use Rattle.std.specs.Prelude.{◌≡◌, true, ◌-◌, ◌≤◌, ◌<◌};
 ghost use Rattle.sets.specs.PlaceSets.{has};
 ghost use Rattle.calls.specs.Promises.{size_of};
 ghost use Rattle.games.specs.Games as games;
@@ -10,30 +10,9 @@ ghost use Rattle.games.specs.Games.{absent_of, absent_count, kind_numbered, hand
 
 use answers::Reply;
 use calls::{Offered, Recovery};
-use games::Played;
 use histories::Kind;
-use layouts::Writing;
-use sets::{Found, Place, PlaceSet};
-
-// The smaller of two numbers.
-fn smaller(a: usize, b: usize) -> usize
-    ensures { result ≡ min a b }
-{
-    if a < b {
-        return a;
-    }
-    b
-}
-
-// The larger of two numbers.
-fn larger(a: usize, b: usize) -> usize
-    ensures { result ≡ max a b }
-{
-    if b < a {
-        return a;
-    }
-    b
-}
+use refusals::Refusal;
+use sets::{Place, PlaceSet};
 
 // The absent places.
 fn absent(r: Recovery) -> PlaceSet
@@ -70,9 +49,9 @@ fn hand_over(r: Recovery, place: Place, number: u64) -> Offered
     };
     let mut bytes = [0u8; 39];
     let done = writes::write(kind, place, &serials[..n], mourned, &mut bytes, 0);
-    let Writing::Next(end) = done else {
+    let Ok(end) = done else {
         return Offered {
-            answer: Reply::Refused(13),
+            answer: Err(Refusal::TooShort),
             recovery: r,
         };
     };
@@ -80,13 +59,13 @@ fn hand_over(r: Recovery, place: Place, number: u64) -> Offered
 }
 
 // Whether a record was taken.
-fn is_taken(reply: Reply) -> bool
+fn is_taken(reply: Result<Reply, Refusal>) -> bool
     ensures { result ≡ games.is_taken reply }
 {
     match reply {
-        Reply::Taken => true,
-        Reply::Repeated => false,
-        Reply::Refused(_) => false,
+        Ok(Reply::Taken) => true,
+        Ok(Reply::Repeated) => false,
+        Err(_) => false,
     }
 }
 
@@ -99,22 +78,16 @@ fn crew(r: Recovery) -> usize
     if askings::settled(r) {
         return 0;
     }
-    let all = absent(r);
-    let lowest = places::lowest(all);
-    let Found::At(first) = lowest else {
+    let mut members = places::members(absent(r));
+    let Some(first) = members.next() else {
         return 0;
     };
-    let mut left = places::without(all, first);
     let mut best = hill(r, first);
-    loop {
-        let found = places::lowest(left);
-        let Found::At(p) = found else {
-            return best + 1;
-        };
+    for p in members {
         let lasts = hill(r, p);
-        best = smaller(best, lasts);
-        left = places::without(left, p);
+        best = best.min(lasts);
     }
+    best + 1
 }
 
 // The hill's turn after a fetch: the most fetches that it can still cost the crew, over all records of the place that are not refused.
@@ -126,27 +99,25 @@ fn hill(r: Recovery, place: Place) -> usize
 {
     let n = standings::size(r.count);
     let numbers = 2u64 << n;
-    let mut most = 0;
-    let mut number = 0;
-    while number < numbers {
+    let mut most = 0usize;
+    for number in 0..numbers {
         let got = hand_over(r, place, number);
         let answer = got.answer;
         if is_taken(answer) {
             let lasts = crew(got.recovery);
-            most = larger(most, lasts);
+            most = most.max(lasts);
         }
-        number += 1;
     }
     most
 }
 
 // Plays the game out: 17 for a roster of more than four, or how many fetches it lasts where both play as well as can be.
-pub fn play(r: Recovery) -> Played
+pub fn play(r: Recovery) -> Result<usize, Refusal>
     ensures { result ≡ played r }
 {
     let n = standings::size(r.count);
     if 4 < n {
-        return Played::Refused(17);
+        return Err(Refusal::TooMany);
     }
-    Played::Fetches(crew(r))
+    Ok(crew(r))
 }

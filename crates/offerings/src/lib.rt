@@ -9,7 +9,8 @@ ghost use Rattle.calls.specs.Promises.{keeping_full, keeping_row, keeping, answe
 use answers::Reply;
 use calls::{Offered, Recovery};
 use histories::Kind;
-use layouts::{Reading, Record};
+use layouts::Record;
+use refusals::Refusal;
 use sets::{Place, PlaceSet};
 
 // Marks a place as full, and adds those of its mourned set to the earlier ones.
@@ -47,18 +48,24 @@ fn keep(next: &mut Recovery, own: Place, kind: Kind, mourned: PlaceSet)
 }
 
 // What an answer to a record leaves.
-fn apply(next: &mut Recovery, own: Place, kind: Kind, mourned: PlaceSet, answer: Reply)
+fn apply(
+    next: &mut Recovery,
+    own: Place,
+    kind: Kind,
+    mourned: PlaceSet,
+    answer: Result<Reply, Refusal>,
+)
     ensures { record { answer = answer; recovery = next.new } ≡ answered next.old own.0 kind (has mourned) answer }
 {
     match answer {
-        Reply::Taken => keep(next, own, kind, mourned),
-        Reply::Repeated => (),
-        Reply::Refused(_) => (),
+        Ok(Reply::Taken) => keep(next, own, kind, mourned),
+        Ok(Reply::Repeated) => (),
+        Err(_) => (),
     }
 }
 
 // Offers a record that was read from some bytes, and changes the recovery where it stands: 3 KB are not copied.
-fn offer_read_in_place(r: &mut Recovery, bytes: &[u8], x: Record) -> Reply
+fn offer_read_in_place(r: &mut Recovery, bytes: &[u8], x: Record) -> Result<Reply, Refusal>
     ensures { record { answer = result; recovery = r.new } ≡ answered r.old x.own.0 x.kind (has x.mourned) (judgement r.old.count r.old.serials (has r.old.returned) (has r.old.full) r.old.rows bytes.now x) }
 {
     let returned = r.returned;
@@ -72,14 +79,11 @@ fn offer_read_in_place(r: &mut Recovery, bytes: &[u8], x: Record) -> Reply
 }
 
 // Offers a lone record, and changes the recovery where it stands.
-fn offer_in_place(r: &mut Recovery, bytes: &[u8]) -> Reply
+fn offer_in_place(r: &mut Recovery, bytes: &[u8]) -> Result<Reply, Refusal>
     ensures { record { answer = result; recovery = r.new } ≡ offered r.old bytes.now }
 {
-    let got = groups::read_lone(r.count, &r.serials, &r.seconds, bytes);
-    match got {
-        Reading::Read(x) => offer_read_in_place(r, bytes, x),
-        Reading::Refused(fault) => Reply::Refused(fault),
-    }
+    let x = groups::read_lone(r.count, &r.serials, &r.seconds, bytes)?;
+    offer_read_in_place(r, bytes, x)
 }
 
 // Offers a record that was read from some bytes: 9, repeated or 10, 11, or taken.

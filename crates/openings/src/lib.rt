@@ -5,9 +5,9 @@ ghost use Rattle.std.specs.Prelude.{◌≡◌, ◌≤◌, ◌<◌, length};
 ghost use Rattle.calls.specs.Promises as contracts;
 ghost use Rattle.calls.specs.Promises.{opened, found_in, with_second, given};
 
-use answers::Giving;
-use calls::{Gave, Opened, Opening, Recovery};
-use serials::{Finding, Listed, Serial};
+use calls::{Gave, Opened, Recovery};
+use refusals::Refusal;
+use serials::{Finding, Serial};
 use sets::Place;
 
 // A recovery with this roster, and nobody back.
@@ -32,7 +32,7 @@ fn fresh(list: &[u32]) -> Recovery
 }
 
 // A refused opening: a recovery of no places.
-fn unopened(fault: u8) -> Opened
+fn unopened(fault: Refusal) -> Opened
     ensures { result ≡ contracts.unopened fault }
 {
     let serials = [0u32; 128];
@@ -49,7 +49,7 @@ fn unopened(fault: u8) -> Opened
         rows,
     };
     Opened {
-        answer: Opening::Refused(fault),
+        answer: Err(fault),
         recovery,
     }
 }
@@ -60,19 +60,19 @@ pub fn open(list: &[u32]) -> Opened
 {
     let found = rosters::check(list);
     match found {
-        Listed::Sound => {
+        Ok(()) => {
             let recovery = fresh(list);
             Opened {
-                answer: Opening::Opened,
+                answer: Ok(()),
                 recovery,
             }
         }
-        Listed::Refused(fault) => unopened(fault),
+        Err(fault) => unopened(fault),
     }
 }
 
 // The place of a serial, and which of the place's two it is.
-pub fn find(r: Recovery, serial: Serial) -> Finding
+pub fn find(r: Recovery, serial: Serial) -> Option<Finding>
     ensures { result ≡ found_in r serial.0 }
 {
     groups::find(r.count, &r.serials, &r.seconds, serial)
@@ -95,15 +95,15 @@ pub fn give(r: Recovery, place: Place, serial: Serial) -> Gave
 {
     let answer = groups::may_give(r.count, &r.serials, &r.seconds, place, serial);
     match answer {
-        Giving::Given => {
+        Ok(()) => {
             let swapped = with_second(r, place, serial);
             Gave {
-                answer: Giving::Given,
+                answer: Ok(()),
                 recovery: swapped,
             }
         }
-        Giving::Refused(fault) => Gave {
-            answer: Giving::Refused(fault),
+        Err(fault) => Gave {
+            answer: Err(fault),
             recovery: r,
         },
     }

@@ -15,24 +15,6 @@ fn same_set(a: PlaceSet, b: PlaceSet) -> bool {
     a.high == b.high
 }
 
-fn same_serials(a: &[u32; 128], b: &[u32; 128]) -> bool {
-    for i in 0..128 {
-        if a[i] != b[i] {
-            return false;
-        }
-    }
-    true
-}
-
-fn same_rows(a: &[u8; 2048], b: &[u8; 2048]) -> bool {
-    for i in 0..2048 {
-        if a[i] != b[i] {
-            return false;
-        }
-    }
-    true
-}
-
 // The count and the four sets.
 fn same_heads(a: Recovery, b: Recovery) -> bool {
     if a.count != b.count {
@@ -63,19 +45,7 @@ pub fn same(a: Recovery, b: Recovery) -> bool {
     if !same_heads(a, b) {
         return false;
     }
-    let one = a.serials;
-    let two = b.serials;
-    if !same_serials(&one, &two) {
-        return false;
-    }
-    let one = a.seconds;
-    let two = b.seconds;
-    if !same_serials(&one, &two) {
-        return false;
-    }
-    let one = a.rows;
-    let two = b.rows;
-    same_rows(&one, &two)
+    a.serials == b.serials && a.seconds == b.seconds && a.rows == b.rows
 }
 
 // The recovery with a second serial for a place, and all else as it was.

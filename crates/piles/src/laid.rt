@@ -12,10 +12,8 @@ fn byte(m: u32, n: usize, i: usize) -> u8 {
 
 // Lays a matrix.
 pub fn lay(m: u32, n: usize, out: &mut [u8; 80]) {
-    let mut i = 0;
-    while i < 80 {
-        out[i] = byte(m, n, i);
-        i += 1;
+    for (i, x) in out.iter_mut().enumerate() {
+        *x = byte(m, n, i);
     }
 }
 
@@ -42,10 +40,8 @@ fn with_byte(m: u32, n: usize, i: usize, x: u8) -> u32 {
 // The matrix that was laid into a buffer; for no rows, 0 where nothing was.
 pub fn read(n: usize, bytes: &[u8; 80]) -> u32 {
     let mut m = 0;
-    let mut i = 0;
-    while i < 80 {
-        m = with_byte(m, n, i, bytes[i]);
-        i += 1;
+    for (i, x) in bytes.iter().enumerate() {
+        m = with_byte(m, n, i, *x);
     }
     m
 }

@@ -97,11 +97,8 @@ fn step(list: &[u32], c: Case, g: Group, place: usize) -> Group {
 // All records of a case in its order.
 pub fn offers(list: &[u32], c: Case, t: Tally) -> Group {
     let mut g = opened(c, t);
-    let mut i = 0;
-    while i < 4 {
-        let next = step(list, c, g, cases::turn(c, i));
-        g = next;
-        i += 1;
+    for i in 0..4 {
+        g = step(list, c, g, cases::turn(c, i));
     }
     g
 }

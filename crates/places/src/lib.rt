@@ -3,10 +3,12 @@
 #![tactic(auto)]
 
 ghost use Rattle.std.specs.Prelude.{◌≡◌, not, ℕ, ◌<◌, ltb};
+ghost use Rattle.std.specs.Iterator.{at_most};
 ghost use Rattle.sets.specs.Sets as sets;
 ghost use Rattle.sets.specs.PlaceSets.{bit, has, kept, found};
+ghost use Rattle.sets.specs.Members.{TakesLowest};
 
-use sets::{Found, Place, PlaceSet};
+use sets::{Place, PlaceSet};
 
 // The set with no member.
 pub fn empty() -> PlaceSet
@@ -153,14 +155,46 @@ pub fn count(s: PlaceSet) -> usize
 }
 
 // The lowest member.
-pub fn lowest(s: PlaceSet) -> Found
+pub fn lowest(s: PlaceSet) -> Option<Place>
     ensures { result ≡ found 128 (sets.lowest 128 (has s)) }
 {
     if s.low != 0 {
-        Found::At(Place(u64::trailing_zeros(s.low) as usize))
+        Some(Place(u64::trailing_zeros(s.low) as usize))
     } else if s.high != 0 {
-        Found::At(Place(64 + u64::trailing_zeros(s.high) as usize))
+        Some(Place(64 + u64::trailing_zeros(s.high) as usize))
     } else {
-        Found::Nothing
+        None
     }
+}
+
+// The members that a walk over a set has not passed.
+#[derive(Drop)]
+pub struct Walk {
+    pub left: PlaceSet,
+}
+
+impl Iterator for Walk {
+    type Item = Place;
+
+    ghost next_gives = { λ s r t. TakesLowest s.left r t.left };
+
+    ghost remaining = { λ s. at_most (sets.count 128 (has s.left)) };
+
+    // The lowest member that is left.
+    #[inline(always)]
+    fn next(&mut self) -> Option<Place> {
+        let Some(p) = lowest(self.left) else {
+            return None;
+        };
+        self.left = without(self.left, p);
+        Some(p)
+    }
+}
+
+// The members one after another, the lowest first.
+#[inline(always)]
+pub fn members(s: PlaceSet) -> Walk
+    ensures { result.left ≡ s }
+{
+    Walk { left: s }
 }

@@ -5,36 +5,26 @@ ghost use Rattle.std.specs.Prelude.{◌≡◌};
 ghost use Rattle.sets.specs.Sets as sets;
 ghost use Rattle.sets.specs.PlaceSets.{has};
 
-use sets::{Found, Place, PlaceSet};
+use sets::{Place, PlaceSet};
 use std::io::{self, Stdout};
 
 // How many members, one after another.
 fn tally(s: PlaceSet) -> usize
     ensures { result ≡ sets.count 128 (has s) }
 {
-    let mut left = s;
     let mut n = 0;
-    loop {
-        let found = places::lowest(left);
-        let Found::At(p) = found else {
-            return n;
-        };
-        left = places::without(left, p);
+    for _ in places::members(s) {
         n += 1;
     }
+    n
 }
 
 // The members in rising order.
 fn print_members(out: Stdout, s: PlaceSet) -> io::Result<()> {
-    let mut left = s;
-    loop {
-        let found = places::lowest(left);
-        let Found::At(p) = found else {
-            return Ok(());
-        };
+    for p in places::members(s) {
         print!(out; "{} ", p.0)?;
-        left = places::without(left, p);
     }
+    Ok(())
 }
 
 // One line: the members, how many were passed one by one, and the count.

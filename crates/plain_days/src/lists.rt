@@ -129,10 +129,8 @@ fn say_event(to: Stdout, e: Turn) -> io::Result<()> {
 }
 
 fn say_events(to: Stdout, c: Case) -> io::Result<()> {
-    let mut i = 0;
-    while i < c.length {
+    for i in 0..c.length {
         say_event(to, event(c, i))?;
-        i += 1;
     }
     Ok(())
 }

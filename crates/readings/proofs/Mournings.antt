@@ -1,5 +1,7 @@
 -- The mourned section at a position of the bytes: its count, then its serials one by one; one law for each way that it goes.
 -- Assumes nothing.
+use Rattle.refusals.specs.declared.Refusal.TheVariants as R
+use Rattle.std.specs.Prelude.{Option, Some, None, Result, Ok, Err}
 use mathlib.Core.Path.{◌≡◌, ap, ◌∙◌}
 use mathlib.Core.Bool.{true, false}
 use mathlib.Core.List.{List, []}
@@ -10,38 +12,39 @@ use lib.Dec.{leb}
 use lib.ListN.{length, get_or, drop}
 use borrow.Author.Tests.{le-leb, lt-leb}
 use Rattle.sets.specs.Sets.{Places, nothing, with}
+use Rattle.sets.specs.declared.Place.{Place}
 use Rattle.sets.specs.PlaceSets.{found}
-use Rattle.sets.specs.declared.Found.{Found}
 use Rattle.serials.specs.Rosters.{place_of, place_from, first_repeat}
 use Rattle.serials.proofs.Rosters.{place_from_lem}
 use Rattle.layouts.specs.Layout.{Parsed, got, refused, then, check, serial, is_on, place_on, mourned_serials, mourned_section}
-use Rattle.layouts.specs.Parts.{coded}
+use Rattle.refusals.specs.declared.Refusal.{Refusal}
+use Rattle.serials.specs.declared.Serial.{Serial}
 use Rattle.layouts.proofs.Sections.{check_yes, check_no, byte_early, byte_got}
-use Rattle.layouts.proofs.Heads.{serial_fault, serial_read}
+use Rattle.layouts.proofs.Heads.{serial_by, serial_fault, serial_read}
 
 -- on a roster with no repeat, looking along it finds a serial at its place
-pub found_along : (r : List ℕ) → first_repeat [] r ≡ length r → (from x : ℕ) (f : Found) → f ≡ found (length r) (place_from from x r) → f ≡ found (length r) (place_of x r)
+pub found_along : (r : List ℕ) → first_repeat [] r ≡ length r → (from x : ℕ) (f : Option Place) → f ≡ found (length r) (place_from from x r) → f ≡ found (length r) (place_of x r)
 found_along r single from x f e = e ∙ ap (found (length r)) (place_from_lem r single from x)
 
 -- ---- the count
 
 module _ (alias : ℕ → ℕ) (r : List ℕ) where
   counted : ℕ → List ℕ → Parsed Places
-  counted m s = check (leb m (length r)) 3 (mourned_serials alias m r 0 nothing s)
+  counted m s = check (leb m (length r)) R.BadCount (mourned_serials alias m r 0 nothing s)
 
   module _ (s : List ℕ) (p : ℕ) where
-    pub mourned_early : length s ≤ p → mourned_section alias r (drop p s) ≡ refused 1
+    pub mourned_early : length s ≤ p → mourned_section alias r (drop p s) ≡ refused R.EndsEarly
     unfolding mourned_section counted
     mourned_early h = byte_early s p counted h
 
     module _ (h : p < length s) where
-      pub mourned_many : length r < get_or s p 0 → mourned_section alias r (drop p s) ≡ refused 3
+      pub mourned_many : length r < get_or s p 0 → mourned_section alias r (drop p s) ≡ refused R.BadCount
       unfolding mourned_section counted
-      mourned_many e = byte_got s p counted h ∙ check_no _ 3 _ (lt-leb _ _ e)
+      mourned_many e = byte_got s p counted h ∙ check_no _ R.BadCount _ (lt-leb _ _ e)
 
       pub mourned_counted : get_or s p 0 ≤ length r → mourned_section alias r (drop p s) ≡ mourned_serials alias (get_or s p 0) r 0 nothing (drop (p + 1) s)
       unfolding mourned_section counted
-      mourned_counted e = byte_got s p counted h ∙ check_yes _ 3 _ (le-leb _ _ e)
+      mourned_counted e = byte_got s p counted h ∙ check_yes _ R.BadCount _ (le-leb _ _ e)
 
 -- ---- the serials
 
@@ -66,8 +69,8 @@ module _ (alias : ℕ → ℕ) (s : List ℕ) (at m : ℕ) (r : List ℕ) where
 module _ (alias : ℕ → ℕ) (s : List ℕ) (at m : ℕ) (r : List ℕ) (j low : ℕ) (M : Places) (more : j < m) where
   next : ℕ → List ℕ → Parsed Places
   next x s₁ =
-      check (is_on alias r x) 6
-      (check (leb low (place_on alias r x)) 7 (mourned_serials alias (m - (j + 1)) r (suc (place_on alias r x)) (with (place_on alias r x) M) s₁))
+      check (is_on alias r x) R.NotOnRoster
+      (check (leb low (place_on alias r x)) R.OutOfOrder (mourned_serials alias (m - (j + 1)) r (suc (place_on alias r x)) (with (place_on alias r x) M) s₁))
 
   step : onwards alias s at m r j low M ≡ then (serial (drop (at + j * 4) s)) next
   unfolding onwards next mourned_serials
@@ -75,27 +78,27 @@ module _ (alias : ℕ → ℕ) (s : List ℕ) (at m : ℕ) (r : List ℕ) (j low
       let q : m - j ≡ suc (m - (j + 1)) = omega arith in
       rw q
 
-  -- the serial there was read: it is x, or it has the fault f
-  module _ (f x : ℕ) (read : serial (drop (at + j * 4) s) ≡ coded f x (drop (at + j * 4 + 4) s)) where
-    pub onwards_fault : (f ≡ 0 → ⊥) → onwards alias s at m r j low M ≡ refused f
-    onwards_fault z = step ∙ serial_fault s (at + j * 4) f x read next z
+  -- the serial there was read: it is y, or it has a fault
+  module _ (x : Result Serial Refusal) (read : serial (drop (at + j * 4) s) ≡ serial_by x s (at + j * 4)) where
+    pub onwards_fault : (f : Refusal) → x ≡ Err f → onwards alias s at m r j low M ≡ refused f
+    onwards_fault f z = step ∙ serial_fault s (at + j * 4) x read next f z
 
-    module _ (z : f ≡ 0) where
-      pub onwards_strange : is_on alias r x ≡ false → onwards alias s at m r j low M ≡ refused 6
+    module _ (y : Serial) (z : x ≡ Ok y) where
+      pub onwards_strange : is_on alias r y.0 ≡ false → onwards alias s at m r j low M ≡ refused R.NotOnRoster
       unfolding next
-      onwards_strange e = step ∙ serial_read s (at + j * 4) f x read next z ∙ check_no _ 6 _ e
+      onwards_strange e = step ∙ serial_read s (at + j * 4) x read next y z ∙ check_no _ R.NotOnRoster _ e
 
       -- and `place` where it stands on the roster
-      module _ (on : is_on alias r x ≡ true) (place : ℕ) (g : place_on alias r x ≡ place) where
-        pub onwards_falling : place < low → onwards alias s at m r j low M ≡ refused 7
+      module _ (on : is_on alias r y.0 ≡ true) (place : ℕ) (g : place_on alias r y.0 ≡ place) where
+        pub onwards_falling : place < low → onwards alias s at m r j low M ≡ refused R.OutOfOrder
         unfolding next
         onwards_falling e =
-            let d : place_on alias r x < low = rw g e in
-            step ∙ serial_read s (at + j * 4) f x read next z ∙ check_yes _ 6 _ on ∙ check_no _ 7 _ (lt-leb _ _ d)
+            let d : place_on alias r y.0 < low = rw g e in
+            step ∙ serial_read s (at + j * 4) x read next y z ∙ check_yes _ R.NotOnRoster _ on ∙ check_no _ R.OutOfOrder _ (lt-leb _ _ d)
 
         pub onwards_more : (M' : Places) → M' ≡ with place M → low ≤ place → onwards alias s at m r j low M ≡ onwards alias s at m r (j + 1) (place + 1) M'
         unfolding next onwards
         onwards_more M' v e =
-            let d : low ≤ place_on alias r x = rw g e in
+            let d : low ≤ place_on alias r y.0 = rw g e in
             let p : at + j * 4 + 4 ≡ at + (j + 1) * 4 = omega arith in
-            step ∙ serial_read s (at + j * 4) f x read next z ∙ check_yes _ 6 _ on ∙ check_yes _ 7 _ (le-leb _ _ d) ∙ rw (g, p, v, add-one place)
+            step ∙ serial_read s (at + j * 4) x read next y z ∙ check_yes _ R.NotOnRoster _ on ∙ check_yes _ R.OutOfOrder _ (le-leb _ _ d) ∙ rw (g, p, v, add-one place)

@@ -9,8 +9,9 @@ ghost use Rattle.layouts.specs.Layout.{head_section, mourned_serials, mourned_se
 ghost use Rattle.layouts.specs.Records.{reading, serials, reading_lone};
 ghost use Rattle.layouts.specs.Parts.{head_of, HeadIn, mourned_of, MournedIn, tail_of, TailIn, Like};
 
-use layouts::{Heading, Mourned, Owner, Reading, Record, Tail};
-use sets::Found;
+use layouts::{Record, Tail, Top};
+use refusals::Refusal;
+use sets::PlaceSet;
 
 // The m serials from a position on as places of the roster, which have to rise. They are looked for along the roster, each
 // from the place after the one before it.
@@ -21,7 +22,7 @@ fn read_mourned(
     roster: &[u32],
     firsts: &[u32],
     seconds: &[u32],
-) -> Mourned
+) -> Result<PlaceSet, Refusal>
     requires at_in_bounds { at ≤ length bytes.now }
     requires m_bound { m ≤ 128 }
     requires roster_len_bound { length roster.now ≤ 128 }
@@ -31,30 +32,29 @@ fn read_mourned(
 {
     let mut set = places::empty();
     let mut from = 0;
-    let mut j = 0;
-    while j < m {
+    for j in 0..m {
         let p = at + j * 4;
-        let got = roster_bytes::read_serial(bytes, p);
-        let fault = got.fault;
-        if fault != 0 {
-            return Mourned::Refused(fault);
-        }
-        let x = got.serial;
-        let Found::At(place) = heads::locate(roster, from, firsts, seconds, x) else {
-            return Mourned::Refused(6);
+        let x = roster_bytes::read_serial(bytes, p)?;
+        let Some(place) = heads::locate(roster, from, firsts, seconds, x) else {
+            return Err(Refusal::NotOnRoster);
         };
         if place.0 < from {
-            return Mourned::Refused(7);
+            return Err(Refusal::OutOfOrder);
         }
         set = places::with(set, place);
         from = place.0 + 1;
-        j += 1;
     }
-    Mourned::Set(set)
+    Ok(set)
 }
 
 // The mourned section at a position, for a roster.
-fn read_tail(bytes: &[u8], at: usize, roster: &[u32], firsts: &[u32], seconds: &[u32]) -> Tail
+fn read_tail(
+    bytes: &[u8],
+    at: usize,
+    roster: &[u32],
+    firsts: &[u32],
+    seconds: &[u32],
+) -> Result<Tail, Refusal>
     requires at_in_bounds { at ≤ length bytes.now }
     requires roster_len_bound { length roster.now ≤ 128 }
     requires roster_value { first_repeat [] roster.now ≡ length roster.now }
@@ -62,51 +62,44 @@ fn read_tail(bytes: &[u8], at: usize, roster: &[u32], firsts: &[u32], seconds: &
     ensures tail_in { TailIn result (length bytes.now) }
 {
     if bytes.len() <= at {
-        return Tail::Refused(1);
+        return Err(Refusal::EndsEarly);
     }
     let m = bytes[at] as usize;
     if roster.len() < m {
-        return Tail::Refused(3);
+        return Err(Refusal::BadCount);
     }
-    match read_mourned(bytes, at + 1, m, roster, firsts, seconds) {
-        Mourned::Refused(fault) => Tail::Refused(fault),
-        Mourned::Set(set) => Tail::End(set, at + 1 + m * 4),
-    }
+    let mourned = read_mourned(bytes, at + 1, m, roster, firsts, seconds)?;
+    Ok(Tail {
+        mourned,
+        next: at + 1 + m * 4,
+    })
 }
 
 // The record that starts at a position, its head read and its roster at the front of the list.
 fn read_rest(
     bytes: &[u8],
     at: usize,
-    head: Heading,
+    head: Result<Top, Refusal>,
     list: &[u32],
     firsts: &[u32],
     seconds: &[u32],
-) -> Reading
+) -> Result<Record, Refusal>
     requires bytes_value { head_section (counts_as firsts.now seconds.now) (drop at bytes.now) ≡ head_of head bytes.now list.now }
     requires head_in { HeadIn head bytes.now (at + 6) list.now }
     ensures { result ≡ reading (counts_as firsts.now seconds.now) bytes.now at }
 {
-    match head {
-        Heading::Refused(fault) => Reading::Refused(fault),
-        Heading::Found(top) => {
-            let kind = top.kind;
-            let own = top.place;
-            let roster = top.roster;
-            let count = top.count;
-            match read_tail(bytes, roster + count * 4, &list[..count], firsts, seconds) {
-                Tail::Refused(fault) => Reading::Refused(fault),
-                Tail::End(mourned, next) => Reading::Read(Record {
-                    kind,
-                    own,
-                    roster,
-                    count,
-                    mourned,
-                    next,
-                }),
-            }
-        }
-    }
+    let top = head?;
+    let roster = top.roster;
+    let count = top.count;
+    let tail = read_tail(bytes, roster + count * 4, &list[..count], firsts, seconds)?;
+    Ok(Record {
+        kind: top.kind,
+        own: top.place,
+        roster,
+        count,
+        mourned: tail.mourned,
+        next: tail.next,
+    })
 }
 
 // The record that starts at a position; its roster goes into the front of the list.
@@ -116,7 +109,7 @@ fn read_into(
     list: &mut [u32; 128],
     firsts: &[u32],
     seconds: &[u32],
-) -> Reading
+) -> Result<Record, Refusal>
     ensures { result ≡ reading (counts_as firsts.now seconds.now) bytes.now at }
 {
     let head = heads::read_head(bytes, at, list, firsts, seconds);
@@ -125,7 +118,7 @@ fn read_into(
 
 // Reads the record that starts at a position; more may follow it. Its own and mourned serials may be second ones of a group with these
 // first and second serials, place by place, 0 for no second one; both lists may be empty.
-pub fn read(bytes: &[u8], at: usize, firsts: &[u32], seconds: &[u32]) -> Reading
+pub fn read(bytes: &[u8], at: usize, firsts: &[u32], seconds: &[u32]) -> Result<Record, Refusal>
     ensures { result ≡ reading (counts_as firsts.now seconds.now) bytes.now at }
 {
     let mut list = [0u32; 128];
@@ -153,32 +146,30 @@ fn is_like(bytes: &[u8], at: usize, list: &[u32], order: &[u8]) -> bool
 }
 
 // The same as `read`, and cheap where the record's roster is the group's and its serials rise in this order.
-pub fn read_like(bytes: &[u8], at: usize, firsts: &[u32], seconds: &[u32], order: &[u8]) -> Reading
+pub fn read_like(
+    bytes: &[u8],
+    at: usize,
+    firsts: &[u32],
+    seconds: &[u32],
+    order: &[u8],
+) -> Result<Record, Refusal>
     ensures { result ≡ reading (counts_as firsts.now seconds.now) bytes.now at }
 {
-    match heads::read_owner(bytes, at) {
-        Owner::Refused(fault) => Reading::Refused(fault),
-        Owner::Of(kind, own) => {
-            if !is_like(bytes, at + 5, firsts, order) {
-                return read(bytes, at, firsts, seconds);
-            }
-            let head = heads::on_roster(kind, own, at + 6, firsts, firsts, seconds);
-            read_rest(bytes, at, head, firsts, firsts, seconds)
-        }
+    let owner = heads::read_owner(bytes, at)?;
+    if !is_like(bytes, at + 5, firsts, order) {
+        return read(bytes, at, firsts, seconds);
     }
+    let head = heads::on_roster(owner.kind, owner.own, at + 6, firsts, firsts, seconds);
+    read_rest(bytes, at, head, firsts, firsts, seconds)
 }
 
 // Reads a lone record, as `read`: bytes after it are refusal 8.
-pub fn read_lone(bytes: &[u8], firsts: &[u32], seconds: &[u32]) -> Reading
+pub fn read_lone(bytes: &[u8], firsts: &[u32], seconds: &[u32]) -> Result<Record, Refusal>
     ensures { result ≡ reading_lone (counts_as firsts.now seconds.now) bytes.now }
 {
-    match read(bytes, 0, firsts, seconds) {
-        Reading::Refused(fault) => Reading::Refused(fault),
-        Reading::Read(first) => {
-            if first.next != bytes.len() {
-                return Reading::Refused(8);
-            }
-            Reading::Read(first)
-        }
+    let first = read(bytes, 0, firsts, seconds)?;
+    if first.next != bytes.len() {
+        return Err(Refusal::BytesAfter);
     }
+    Ok(first)
 }

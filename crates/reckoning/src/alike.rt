@@ -15,22 +15,6 @@ fn same_set(a: PlaceSet, b: PlaceSet) -> bool {
     a.high == b.high
 }
 
-fn same_serials(a: &[u32; 128], b: &[u32; 128]) -> bool {
-    let mut differing = 0;
-    for i in 0..128 {
-        differing |= a[i] ^ b[i];
-    }
-    differing == 0
-}
-
-fn same_rows(a: &[u8; 2048], b: &[u8; 2048]) -> bool {
-    let mut differing = 0;
-    for i in 0..2048 {
-        differing |= a[i] ^ b[i];
-    }
-    differing == 0
-}
-
 // The count and the four sets.
 fn same_heads(a: Recovery, b: Recovery) -> bool {
     if a.count != b.count {
@@ -61,19 +45,7 @@ pub fn same(a: Recovery, b: Recovery) -> bool {
     if !same_heads(a, b) {
         return false;
     }
-    let one = a.serials;
-    let two = b.serials;
-    if !same_serials(&one, &two) {
-        return false;
-    }
-    let one = a.seconds;
-    let two = b.seconds;
-    if !same_serials(&one, &two) {
-        return false;
-    }
-    let one = a.rows;
-    let two = b.rows;
-    same_rows(&one, &two)
+    a.serials == b.serials && a.seconds == b.seconds && a.rows == b.rows
 }
 
 // The recovery with a second serial for a place, and all else as it was.

@@ -69,11 +69,8 @@ fn unopened(t: Tally) -> Tally {
 // Gives the places of a roster a list of second serials.
 fn gives(run: Run, list: &[u32]) -> Run {
     let mut g = run;
-    let mut i = 0;
-    while i < list.len() {
-        let next = runs::give(g, i, list[i], GIVEN);
-        g = next;
-        i += 1;
+    for (i, x) in list.iter().enumerate() {
+        g = runs::give(g, i, *x, GIVEN);
     }
     g
 }
@@ -81,12 +78,8 @@ fn gives(run: Run, list: &[u32]) -> Run {
 // Finds each serial of a list, as the first or as the second one of its place.
 fn finds(run: Run, list: &[u32], which: u64) -> Run {
     let mut g = run;
-    let mut i = 0;
-    while i < list.len() {
-        let place = std::num::wrapping_add_u64(which, i as u64);
-        let next = runs::find(g, list[i], place);
-        g = next;
-        i += 1;
+    for (i, x) in list.iter().enumerate() {
+        g = runs::find(g, *x, which.wrapping_add(i as u64));
     }
     g
 }

@@ -152,11 +152,8 @@ fn find(t: Tally, r: Recovery, case: u64, x: u32, expected: u64) -> Tally {
 // Every serial of a recovery is found at its place.
 fn finds(tally: Tally, r: Recovery, case: u64, list: &[u32]) -> Tally {
     let mut t = tally;
-    let mut i = 0;
-    while i < list.len() {
-        let next = find(t, r, case, list[i], i as u64);
-        t = next;
-        i += 1;
+    for (i, x) in list.iter().enumerate() {
+        t = find(t, r, case, *x, i as u64);
     }
     t
 }

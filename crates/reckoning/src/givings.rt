@@ -221,11 +221,8 @@ fn give(c: Case, s: Stand, i: usize) -> Stand {
 // All givings of a list.
 fn gives(c: Case, t: Tally) -> Stand {
     let mut s = opened(c, t);
-    let mut i = 0;
-    while i < c.n {
-        let next = give(c, s, i);
-        s = next;
-        i += 1;
+    for i in 0..c.n {
+        s = give(c, s, i);
     }
     s
 }
@@ -239,11 +236,8 @@ fn find(c: Case, r: Recovery, b: Boards, t: Tally, x: u32) -> Tally {
 // Finds the serials 0 to 10.
 fn finds(c: Case, r: Recovery, b: Boards, tally: Tally) -> Tally {
     let mut t = tally;
-    let mut x = 0u32;
-    while x < 11 {
-        let next = find(c, r, b, t, x);
-        t = next;
-        x += 1;
+    for x in 0..11 {
+        t = find(c, r, b, t, x);
     }
     t
 }
@@ -279,11 +273,8 @@ fn offer(c: Case, r: Recovery, b: Boards, t: Tally, k: u32) -> Tally {
 // Offers every record in both kinds.
 fn offers(c: Case, r: Recovery, b: Boards, tally: Tally) -> Tally {
     let mut t = tally;
-    let mut k = 0u32;
-    while k < 3096 {
-        let next = offer(c, r, b, t, k);
-        t = next;
-        k += 1;
+    for k in 0..3096 {
+        t = offer(c, r, b, t, k);
     }
     t
 }
@@ -300,11 +291,8 @@ fn played(c: Case, t: Tally) -> Tally {
 // Every list of n givings.
 fn of_length(n: usize, tally: Tally) -> Tally {
     let mut t = tally;
-    let mut list = 0u32;
-    while list < lists(n) {
-        let next = played(Case { n, list }, t);
-        t = next;
-        list += 1;
+    for list in 0..lists(n) {
+        t = played(Case { n, list }, t);
     }
     t
 }

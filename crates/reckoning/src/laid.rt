@@ -9,9 +9,7 @@ fn lay_row(m: u32, n: usize, q: usize, out: &mut [u8; 80])
 {
     let at = 16 * q;
     let fill = if q < n { 0 } else { 0xff };
-    for k in 0..16 {
-        out[at + k] = fill;
-    }
+    out[at..at + 16].fill(fill);
     if q < n {
         out[at] = matrices::row(m, q) as u8;
     }
@@ -75,12 +73,8 @@ fn expected(made: &[u8], at: usize, i: usize) -> u8 {
 
 // Whether a buffer has these bytes from a position on, and was not touched elsewhere.
 pub fn has_only(bytes: &[u8; 80], at: usize, made: &[u8]) -> bool {
-    let mut i = 0;
-    while i < 80 {
-        if bytes[i] != expected(made, at, i) {
-            return false;
-        }
-        i += 1;
-    }
-    true
+    bytes
+        .iter()
+        .enumerate()
+        .all(|(i, x)| *x == expected(made, at, i))
 }

@@ -3,8 +3,8 @@ use crate::cases::Case;
 use crate::outcomes::{LAST, LISTED, NOT_LAST, OPEN};
 use crate::tallies::Tally;
 use crate::{cases, outcomes, parts};
-use answers::Listing;
 use recovery::Recovery;
+use refusals::Refusal;
 
 // What the buffer has before.
 const OLD: u8 = 7;
@@ -27,10 +27,10 @@ fn same(a: [u8; 5], b: [u8; 5]) -> bool {
     a[0] == b[0] && a[1] == b[1] && a[2] == b[2] && a[3] == b[3] && a[4] == b[4]
 }
 
-fn outcome(got: Listing) -> u64 {
+fn outcome(got: Result<(), Refusal>) -> u64 {
     match got {
-        Listing::Laid => LISTED,
-        Listing::Refused(fault) => fault as u64,
+        Ok(()) => LISTED,
+        Err(fault) => fault as u64,
     }
 }
 

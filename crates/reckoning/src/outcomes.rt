@@ -1,9 +1,7 @@
 // Every outcome as one number: a refusal is its own number, the others stand above all sets, counts and positions that occur.
 use crate::say;
-use answers::{Fetching, Giving, Reply, Showing};
-use games::Played;
-use records::Writing;
-use recovery::{Asked, Checked, Opening};
+use answers::{Answer, Fetching, Reply, Showing};
+use refusals::Refusal;
 use serials::Finding;
 use sets::PlaceSet;
 use std::io::{self, Stdout};
@@ -67,91 +65,91 @@ pub fn write(to: Stdout, x: u64) -> io::Result<()> {
     }
 }
 
-pub fn opening(got: Opening) -> u64 {
+pub fn opening(got: Result<(), Refusal>) -> u64 {
     match got {
-        Opening::Opened => OPENED,
-        Opening::Refused(fault) => fault as u64,
+        Ok(()) => OPENED,
+        Err(fault) => fault as u64,
     }
 }
 
-pub fn reply(got: Reply) -> u64 {
+pub fn reply(got: Result<Reply, Refusal>) -> u64 {
     match got {
-        Reply::Taken => TAKEN,
-        Reply::Repeated => REPEATED,
-        Reply::Refused(fault) => fault as u64,
+        Ok(Reply::Taken) => TAKEN,
+        Ok(Reply::Repeated) => REPEATED,
+        Err(fault) => fault as u64,
     }
 }
 
-pub fn asked(got: Asked) -> u64 {
+pub fn asked(got: Result<Answer, Refusal>) -> u64 {
     match got {
-        Asked::Last => LAST,
-        Asked::NotLast => NOT_LAST,
-        Asked::Open => OPEN,
-        Asked::Refused(fault) => fault as u64,
+        Ok(Answer::Last) => LAST,
+        Ok(Answer::NotLast) => NOT_LAST,
+        Ok(Answer::Open) => OPEN,
+        Err(fault) => fault as u64,
     }
 }
 
-pub fn showing(got: Showing) -> u64 {
+pub fn showing(got: Result<Showing, Refusal>) -> u64 {
     match got {
-        Showing::Shown => SHOWN,
-        Showing::Decided => DECIDED,
-        Showing::Refused(fault) => fault as u64,
+        Ok(Showing::Shown) => SHOWN,
+        Ok(Showing::Decided) => DECIDED,
+        Err(fault) => fault as u64,
     }
 }
 
-pub fn checked(got: Checked) -> u64 {
+pub fn checked(got: Result<bool, Refusal>) -> u64 {
     match got {
-        Checked::Fits => FITS,
-        Checked::FitsNot => FITS_NOT,
-        Checked::Refused(fault) => fault as u64,
+        Ok(true) => FITS,
+        Ok(false) => FITS_NOT,
+        Err(fault) => fault as u64,
     }
 }
 
 // Where a written record ends. Refusals are told from the positions, which are larger than 15 in all cases here.
-pub fn writing(got: Writing) -> u64 {
+pub fn writing(got: Result<usize, Refusal>) -> u64 {
     match got {
-        Writing::Next(next) => next as u64,
-        Writing::Refused(fault) => fault as u64,
+        Ok(next) => next as u64,
+        Err(fault) => fault as u64,
     }
 }
 
 // The place of a serial, by its first serial or by its second one.
-pub fn found(got: Finding) -> u64 {
+pub fn found(got: Option<Finding>) -> u64 {
     match got {
-        Finding::First(place) => place.0 as u64,
-        Finding::Second(place) => std::num::wrapping_add_u64(SECOND, place.0 as u64),
-        Finding::Nothing => NOTHING,
+        Some(Finding::First(place)) => place.0 as u64,
+        Some(Finding::Second(place)) => std::num::wrapping_add_u64(SECOND, place.0 as u64),
+        None => NOTHING,
     }
 }
 
-pub fn giving(got: Giving) -> u64 {
+pub fn giving(got: Result<(), Refusal>) -> u64 {
     match got {
-        Giving::Given => GIVEN,
-        Giving::Refused(fault) => fault as u64,
+        Ok(()) => GIVEN,
+        Err(fault) => fault as u64,
     }
 }
 
 // How many fetches are told.
-pub fn fetching(got: Fetching) -> u64 {
+pub fn fetching(got: Option<Fetching>) -> u64 {
     match got {
-        Fetching::Settled => SETTLED,
-        Fetching::Needs(fetches, _) => fetches as u64,
+        None => SETTLED,
+        Some(fetching) => fetching.number as u64,
     }
 }
 
 // The place that is told.
-pub fn next(got: Fetching) -> u64 {
+pub fn next(got: Option<Fetching>) -> u64 {
     match got {
-        Fetching::Settled => NOTHING,
-        Fetching::Needs(_, place) => place.0 as u64,
+        None => NOTHING,
+        Some(fetching) => fetching.next.0 as u64,
     }
 }
 
 // How many fetches a game lasts: at most four, so that they are told from refusals.
-pub fn played(got: Played) -> u64 {
+pub fn played(got: Result<usize, Refusal>) -> u64 {
     match got {
-        Played::Fetches(fetches) => fetches as u64,
-        Played::Refused(fault) => fault as u64,
+        Ok(fetches) => fetches as u64,
+        Err(fault) => fault as u64,
     }
 }
 

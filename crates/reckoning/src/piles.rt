@@ -107,10 +107,8 @@ fn step(list: &[u32], c: Case, g: &mut Group, bytes: &mut [u8; 1100], place: usi
 pub fn offers(list: &[u32], c: Case, t: Tally) -> Group {
     let mut g = opened(c, t);
     let mut bytes = [0u8; 1100];
-    let mut i = 0;
-    while i < 4 {
+    for i in 0..4 {
         step(list, c, &mut g, &mut bytes, cases::turn(c, i));
-        i += 1;
     }
     g
 }

@@ -23,22 +23,12 @@ fn put(table: &mut [u8; 4913], pile: u32, value: u8) {
     }
 }
 
-fn smaller(a: u8, b: u8) -> u8 {
-    if a < b {
-        return a;
-    }
-    b
-}
-
 // The larger of two, where the second one counts only for a pile that fits.
 fn larger(a: u8, b: u8) -> u8 {
     if b == UNFIT {
         return a;
     }
-    if a < b {
-        return b;
-    }
-    a
+    a.max(b)
 }
 
 // How long the rest lasts at most after a fetch of a place, over all its records that are not refused.
@@ -46,13 +36,9 @@ fn hill(table: &[u8; 4913], c: Case, place: usize) -> u8 {
     let weight = cases::weight(c.n, place);
     let mut pile = c.pile;
     let mut most = 0;
-    let mut digit = 1u32;
-    while digit < cases::base(c.n) {
-        let next = std::num::wrapping_add_u32(pile, weight);
-        pile = next;
-        let lasts = larger(most, value(table, pile));
-        most = lasts;
-        digit += 1;
+    for _ in 1..cases::base(c.n) {
+        pile = pile.wrapping_add(weight);
+        most = larger(most, value(table, pile));
     }
     most
 }
@@ -70,8 +56,10 @@ fn fetched(table: &[u8; 4913], c: Case, place: usize) -> u8 {
 
 // One fetch, and the rest of the game where the crew makes it shortest.
 fn crew(table: &[u8; 4913], c: Case) -> u8 {
-    let low = smaller(fetched(table, c, 0), fetched(table, c, 1));
-    std::num::wrapping_add_u8(smaller(low, fetched(table, c, 2)), 1)
+    fetched(table, c, 0)
+        .min(fetched(table, c, 1))
+        .min(fetched(table, c, 2))
+        .wrapping_add(1)
 }
 
 // Whether the histories leave some place open.
@@ -103,9 +91,7 @@ fn case(n: usize, pile: u32) -> Case {
 }
 
 fn fill(list: &[u32], n: usize, table: &mut [u8; 4913]) {
-    let mut pile = cases::piles(n);
-    while 0 < pile {
-        pile -= 1;
+    for pile in (0..cases::piles(n)).rev() {
         let value = lasts(list, table, case(n, pile));
         put(table, pile, value);
     }
@@ -140,11 +126,8 @@ fn play(list: &[u32], table: &[u8; 4913], c: Case, t: Tally) -> Tally {
 
 fn all_piles(list: &[u32], table: &[u8; 4913], n: usize, tally: Tally) -> Tally {
     let mut t = tally;
-    let mut pile = 0u32;
-    while pile < cases::piles(n) {
-        let next = play(list, table, case(n, pile), t);
-        t = next;
-        pile += 1;
+    for pile in 0..cases::piles(n) {
+        t = play(list, table, case(n, pile), t);
     }
     t
 }

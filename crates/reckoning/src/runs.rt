@@ -223,11 +223,8 @@ fn answer(letters: &[u8], i: usize) -> u64 {
 // Asks for every place: a letter stands for each answer, l, n or o.
 fn asks(run: Run, letters: &[u8]) -> Run {
     let mut g = run;
-    let mut i = 0;
-    while i < run.n {
-        let next = ask(g, i, answer(letters, i));
-        g = next;
-        i += 1;
+    for i in 0..run.n {
+        g = ask(g, i, answer(letters, i));
     }
     g
 }

@@ -10,10 +10,10 @@ pub fn serials() -> [u32; 6] {
 
 // The first serial of a small roster's place, or the second one where the place stands in a set.
 fn name(swapped: u32, i: usize, first: u32) -> u32 {
-    if one_if_in(swapped, i) == 0 {
-        return first;
+    if is_in(swapped, i) {
+        return first.wrapping_add(393216);
     }
-    std::num::wrapping_add_u32(first, 393216)
+    first
 }
 
 // The serials of the small rosters, second ones for a set of places.
@@ -41,11 +41,9 @@ pub fn name_of(place: usize, second: bool) -> u32 {
 // The list x, 2 x, 3 x and so on, each added to a number.
 fn fill(list: &mut [u32; 130], x: u32, from: u32) {
     let mut y = from;
-    let mut i = 0;
-    while i < 130 {
-        y = std::num::wrapping_add_u32(y, x);
-        list[i] = y;
-        i += 1;
+    for serial in list.iter_mut() {
+        y = y.wrapping_add(x);
+        *serial = y;
     }
 }
 
@@ -66,20 +64,15 @@ pub fn second_multiples() -> [u32; 130] {
 // The serials that differ from x in one bit, the lowest first, and after 32 of them x itself.
 pub fn one_bit(list: &mut [u32; 130], x: u32) {
     let mut bit = 1u32;
-    let mut i = 0;
-    while i < 130 {
-        list[i] = x ^ bit;
-        bit = std::num::wrapping_add_u32(bit, bit);
-        i += 1;
+    for serial in list.iter_mut() {
+        *serial = x ^ bit;
+        bit = bit.wrapping_add(bit);
     }
 }
 
 // A count as a byte, 255 where it has no room.
 pub(crate) fn byte(n: usize) -> u8 {
-    if n < 256 {
-        return n as u8;
-    }
-    255
+    n.min(255) as u8
 }
 
 // The serial of a place, 0 where there is none.
@@ -93,19 +86,14 @@ pub(crate) fn serial(roster: &[u32], place: usize) -> u32 {
 fn put_serial(out: &mut [u8; 1100], at: usize, x: u32)
     requires { at + 4 ≤ 1100 }
 {
-    out[at] = (x / 16777216) as u8;
-    out[at + 1] = (x / 65536 % 256) as u8;
-    out[at + 2] = (x / 256 % 256) as u8;
-    out[at + 3] = (x % 256) as u8;
+    out[at..at + 4].copy_from_slice(&x.to_be_bytes());
 }
 
 fn put_serials(out: &mut [u8; 1100], at: usize, list: &[u32])
     requires { at + 4 * length list.now ≤ 1100 }
 {
-    let mut i = 0;
-    while i < list.len() {
-        put_serial(out, at + 4 * i, list[i]);
-        i += 1;
+    for (i, x) in list.iter().enumerate() {
+        put_serial(out, at + 4 * i, *x);
     }
 }
 
@@ -137,36 +125,19 @@ pub fn lay(
     at + 1 + 4 * mourned.len()
 }
 
-fn put(out: &mut [u32; 6], at: usize, x: u32) {
-    if at < 6 {
-        out[at] = x;
-    }
-}
-
-// 1 where place i stands in a set of places below 6, 0 elsewhere.
-fn one_if_in(set: u32, i: usize) -> usize
-    ensures { result ≤ 1 }
-{
-    match i {
-        0 => (set % 2) as usize,
-        1 => (set / 2 % 2) as usize,
-        2 => (set / 4 % 2) as usize,
-        3 => (set / 8 % 2) as usize,
-        4 => (set / 16 % 2) as usize,
-        5 => (set / 32 % 2) as usize,
-        _ => 0,
-    }
+// Whether place i stands in a set of places below 6.
+fn is_in(set: u32, i: usize) -> bool {
+    i < 6 && set >> i & 1 != 0
 }
 
 // The serials of a set of places in roster order, and how many they are.
 fn select(roster: &[u32], set: u32, out: &mut [u32; 6]) -> usize {
     let mut n = 0;
-    let mut i = 0;
-    while i < roster.len() {
-        put(out, n, roster[i]);
-        let one = one_if_in(set, i);
-        n += one;
-        i += 1;
+    for (i, x) in roster.iter().enumerate() {
+        if is_in(set, i) && n < 6 {
+            out[n] = *x;
+            n += 1;
+        }
     }
     n
 }

@@ -39,17 +39,14 @@ fn try_list(d: Day, c: Case, trial: Trial, t: Tally) -> Tally {
 // Every list of a length.
 fn of_length(d: Day, kind: u8, n: usize, length: usize, trial: Trial, tally: Tally) -> Tally {
     let mut t = tally;
-    let mut list = 0u64;
-    while list < event_lists::lists(n, length) {
+    for list in 0..event_lists::lists(n, length) {
         let c = Case {
             kind,
             n,
             length,
             list,
         };
-        let next = try_list(d, c, trial, t);
-        t = next;
-        list += 1;
+        t = try_list(d, c, trial, t);
     }
     t
 }
@@ -58,11 +55,8 @@ fn of_length(d: Day, kind: u8, n: usize, length: usize, trial: Trial, tally: Tal
 fn shorter(kind: u8, n: usize, than: usize, trial: Trial, tally: Tally) -> Tally {
     let d = day(kind, n);
     let mut t = tally;
-    let mut length = 0;
-    while length < than {
-        let next = of_length(d, kind, n, length, trial, t);
-        t = next;
-        length += 1;
+    for length in 0..than {
+        t = of_length(d, kind, n, length, trial, t);
     }
     t
 }
@@ -136,11 +130,8 @@ fn allowed_up_to(kind: u8, n: usize, tally: Tally) -> Tally {
     let d = day(kind, n);
     let r = group(n);
     let mut t = tally;
-    let mut length = 0;
-    while length < 8 {
-        let next = allowed(d, r, kind, n, length, t);
-        t = next;
-        length += 1;
+    for length in 0..8 {
+        t = allowed(d, r, kind, n, length, t);
     }
     t
 }

@@ -16,11 +16,9 @@ fn open(t: Tally, name: &[u8], kind: u8, list: &[u32], expected: u64) -> Tally {
 // The serials 65536, 131072 and so on.
 fn fill(list: &mut [u32; 130]) {
     let mut x = 0u32;
-    let mut i = 0;
-    while i < 130 {
-        x = std::num::wrapping_add_u32(x, 65536);
-        list[i] = x;
-        i += 1;
+    for serial in list.iter_mut() {
+        x = x.wrapping_add(65536);
+        *serial = x;
     }
 }
 
@@ -75,7 +73,7 @@ fn happen(t: Tally, d: Day, name: &[u8], kind: u8, p: usize, q: usize, expected:
         other: Place(q),
     };
     let got = days::happen(d, e);
-    tallies::named(t, name, expected, got.refusal as u64)
+    tallies::named(t, name, expected, outcomes::happening(got.answer))
 }
 
 // Writes into the first bytes of a buffer; nothing is touched unless it is written.

@@ -1,9 +1,7 @@
 // Every outcome as one number: a refusal is its own number, the others stand above all counts and positions that occur.
 use crate::say;
-use answers::Reply;
-use days::Opening;
-use records::Writing;
-use recovery::Asked;
+use answers::{Answer, Reply};
+use refusals::Refusal;
 use std::io::{self, Stdout};
 
 pub const OPENED: u64 = 1000001;
@@ -31,35 +29,43 @@ pub fn write(to: Stdout, x: u64) -> io::Result<()> {
     }
 }
 
-pub fn opening(got: Opening) -> u64 {
+pub fn opening(got: Result<(), Refusal>) -> u64 {
     match got {
-        Opening::Opened => OPENED,
-        Opening::Refused(fault) => fault as u64,
+        Ok(()) => OPENED,
+        Err(fault) => fault as u64,
     }
 }
 
-pub fn reply(got: Reply) -> u64 {
+pub fn reply(got: Result<Reply, Refusal>) -> u64 {
     match got {
-        Reply::Taken => TAKEN,
-        Reply::Repeated => REPEATED,
-        Reply::Refused(fault) => fault as u64,
+        Ok(Reply::Taken) => TAKEN,
+        Ok(Reply::Repeated) => REPEATED,
+        Err(fault) => fault as u64,
     }
 }
 
-pub fn asked(got: Asked) -> u64 {
+pub fn asked(got: Result<Answer, Refusal>) -> u64 {
     match got {
-        Asked::Last => LAST,
-        Asked::NotLast => NOT_LAST,
-        Asked::Open => OPEN,
-        Asked::Refused(fault) => fault as u64,
+        Ok(Answer::Last) => LAST,
+        Ok(Answer::NotLast) => NOT_LAST,
+        Ok(Answer::Open) => OPEN,
+        Err(fault) => fault as u64,
     }
 }
 
 // Where a written record ends. Refusals are told from the positions, which are larger than 15 in all cases here.
-pub fn writing(got: Writing) -> u64 {
+pub fn writing(got: Result<usize, Refusal>) -> u64 {
     match got {
-        Writing::Next(next) => next as u64,
-        Writing::Refused(fault) => fault as u64,
+        Ok(next) => next as u64,
+        Err(fault) => fault as u64,
+    }
+}
+
+// What an event meets: 0 where it happens.
+pub fn happening(got: Result<(), Refusal>) -> u64 {
+    match got {
+        Ok(()) => 0,
+        Err(fault) => fault as u64,
     }
 }
 

@@ -16,7 +16,7 @@ pub struct Pair {
 fn paired(d: Day, c: Case, tally: Tally) -> Pair {
     let played = Played {
         count: 0,
-        refusal: 0,
+        answer: Ok(()),
         day: d,
     };
     let plain = plain::begun(c.kind, c.n);
@@ -48,7 +48,7 @@ fn step(c: Case, g: Pair, i: usize) -> Pair {
         b"refusal at event",
         i,
         plain.refusal as u64,
-        played.refusal as u64,
+        outcomes::happening(played.answer),
     );
     let tally = event_lists::held(t, c, b"count at event", i, plain.count, played.count as u64);
     Pair {
@@ -61,11 +61,8 @@ fn step(c: Case, g: Pair, i: usize) -> Pair {
 // A list, up to its first refusal.
 pub fn play(d: Day, c: Case, tally: Tally) -> Pair {
     let mut g = paired(d, c, tally);
-    let mut i = 0;
-    while i < c.length {
-        let next = step(c, g, i);
-        g = next;
-        i += 1;
+    for i in 0..c.length {
+        g = step(c, g, i);
     }
     g
 }
@@ -78,7 +75,7 @@ fn happen(c: Case, g: Pair, i: usize) -> Pair {
     let day = old.day;
     let plain = plain::happen(g.plain, e);
     let got = days::happen(day, event(e));
-    let refusal = got.refusal;
+    let answer = got.answer;
     let day = got.day;
     let tally = event_lists::held(
         t,
@@ -86,11 +83,11 @@ fn happen(c: Case, g: Pair, i: usize) -> Pair {
         b"refusal by itself at event",
         i,
         plain.refusal as u64,
-        refusal as u64,
+        outcomes::happening(answer),
     );
     let played = Played {
         count: 0,
-        refusal,
+        answer,
         day,
     };
     Pair {
@@ -103,11 +100,8 @@ fn happen(c: Case, g: Pair, i: usize) -> Pair {
 // Every event of a list, those after a refused one too.
 pub fn happens(d: Day, c: Case, tally: Tally) -> Pair {
     let mut g = paired(d, c, tally);
-    let mut i = 0;
-    while i < c.length {
-        let next = happen(c, g, i);
-        g = next;
-        i += 1;
+    for i in 0..c.length {
+        g = happen(c, g, i);
     }
     g
 }
@@ -126,10 +120,7 @@ fn record(made: &mut [u8; 64], d: Plain, place: usize) -> u64 {
 
 // How many bytes were to be written.
 fn length(expected: u64) -> usize {
-    if expected < 20 {
-        return 0;
-    }
-    (expected - 20) as usize
+    expected.saturating_sub(20) as usize
 }
 
 fn write(c: Case, d: Day, plain: Plain, t: Tally, place: usize) -> Tally {
@@ -155,11 +146,8 @@ pub fn writes(c: Case, g: Pair) -> Tally {
     let day = played.day;
     let plain = g.plain;
     let mut t = g.tally;
-    let mut place = 0;
-    while place < 4 {
-        let next = write(c, day, plain, t, place);
-        t = next;
-        place += 1;
+    for place in 0..4 {
+        t = write(c, day, plain, t, place);
     }
     t
 }

@@ -7,7 +7,6 @@ use crate::plain::Plain;
 use crate::tallies::Tally;
 use crate::{event_lists, outcomes, parts, plain};
 use days::Day;
-use records::Writing;
 use recovery::{Offered, Recovery};
 use sets::Place;
 
@@ -38,18 +37,11 @@ fn turn(n: usize, order: usize, i: usize) -> usize {
     (order / 2 % 3 + 3 - i % 3) % 3
 }
 
-fn end(got: Writing) -> usize {
-    match got {
-        Writing::Next(next) => next,
-        Writing::Refused(_) => 0,
-    }
-}
-
 // Offers the record that the day writes for a place.
 fn offer(d: Day, r: Recovery, place: usize) -> Offered {
     let mut out = [0u8; 64];
     let got = days::write(d, Place(place), &mut out, 0);
-    recovery::offer(r, parts::of_buffer(&out, end(got)))
+    recovery::offer(r, parts::of_buffer(&out, got.unwrap_or(0)))
 }
 
 // What may be answered for a place: what is true of the day, or open while one is not back.
@@ -72,11 +64,8 @@ fn ask(c: Case, r: Recovery, d: Plain, t: Tally, place: usize, back: usize) -> T
 
 fn asks(c: Case, r: Recovery, d: Plain, tally: Tally, back: usize) -> Tally {
     let mut t = tally;
-    let mut place = 0;
-    while place < c.n {
-        let next = ask(c, r, d, t, place, back);
-        t = next;
-        place += 1;
+    for place in 0..c.n {
+        t = ask(c, r, d, t, place, back);
     }
     t
 }
@@ -115,11 +104,8 @@ fn bring(c: Case, d: Day, plain: Plain, g: Back, order: usize, back: usize) -> B
 // All records in one order, to a recovery with nobody back.
 fn in_order(c: Case, d: Day, plain: Plain, r: Recovery, tally: Tally, order: usize) -> Tally {
     let mut g = Back { recovery: r, tally };
-    let mut back = 0;
-    while back < c.n {
-        back += 1;
-        let next = bring(c, d, plain, g, order, back);
-        g = next;
+    for back in 1..=c.n {
+        g = bring(c, d, plain, g, order, back);
     }
     g.tally
 }
@@ -130,11 +116,8 @@ pub fn in_every_order(c: Case, g: Pair, r: Recovery, tally: Tally) -> Tally {
     let day = played.day;
     let plain = g.plain;
     let mut t = tally;
-    let mut order = 0;
-    while order < orders(c.n) {
-        let next = in_order(c, day, plain, r, t, order);
-        t = next;
-        order += 1;
+    for order in 0..orders(c.n) {
+        t = in_order(c, day, plain, r, t, order);
     }
     t
 }

@@ -138,11 +138,8 @@ fn of_place(list: &[u32], c: Case, r: Recovery, pile: Pile, tally: Tally, place:
 
 pub(crate) fn places(list: &[u32], c: Case, r: Recovery, pile: Pile, tally: Tally) -> Tally {
     let mut t = tally;
-    let mut place = 0;
-    while place < c.n {
-        let next = of_place(list, c, r, pile, t, place);
-        t = next;
-        place += 1;
+    for place in 0..c.n {
+        t = of_place(list, c, r, pile, t, place);
     }
     t
 }
@@ -181,11 +178,8 @@ pub(crate) fn checks(
     requires { (0 < stride) × (stride ≤ 65536) }
 {
     let mut t = tally;
-    let mut k = from;
-    while k < matrices::all(c.n) {
-        let next = check(c, r, pile, t, matrices::spread(c.n, k));
-        t = next;
-        k += stride;
+    for k in (from..matrices::all(c.n)).step_by(stride as usize) {
+        t = check(c, r, pile, t, matrices::spread(c.n, k));
     }
     t
 }
@@ -203,12 +197,8 @@ pub(crate) fn listed(
     requires { (0 < stride) × (stride ≤ 1024) }
 {
     let mut t = tally;
-    let mut i = from;
-    while i < list.len() {
-        let m = matrices::recorded(pile, list[i]);
-        let next = check(c, r, pile, t, m);
-        t = next;
-        i += stride;
+    for i in (from..list.len()).step_by(stride) {
+        t = check(c, r, pile, t, matrices::recorded(pile, list[i]));
     }
     t
 }

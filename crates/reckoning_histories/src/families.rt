@@ -21,12 +21,8 @@ enum Trial {
 // The records of a pile in every order.
 fn orders(list: &[u32], n: usize, pile: u32, tally: Tally) -> Tally {
     let mut t = tally;
-    let mut order = 0u32;
-    while order < cases::orders(n) {
-        let c = Case { n, pile, order };
-        let next = alike::played(list, c, t);
-        t = next;
-        order += 1;
+    for order in 0..cases::orders(n) {
+        t = alike::played(list, Case { n, pile, order }, t);
     }
     t
 }
@@ -59,11 +55,8 @@ fn try_pile(list: &[u32], n: usize, pile: u32, trial: Trial, t: Tally) -> Tally 
 
 fn all_piles(list: &[u32], n: usize, trial: Trial, tally: Tally) -> Tally {
     let mut t = tally;
-    let mut pile = 0u32;
-    while pile < cases::piles(n) {
-        let next = try_pile(list, n, pile, trial, t);
-        t = next;
-        pile += 1;
+    for pile in 0..cases::piles(n) {
+        t = try_pile(list, n, pile, trial, t);
     }
     t
 }

@@ -8,16 +8,13 @@ use trials::{parts, tallies};
 
 fn all_piles(list: &[u32], n: usize, tally: Tally) -> Tally {
     let mut t = tally;
-    let mut pile = 0u32;
-    while pile < cases::piles(n) {
+    for pile in 0..cases::piles(n) {
         let c = Case {
             n,
             pile,
             order: pile % 24,
         };
-        let next = seconds::played(list, c, t);
-        t = next;
-        pile += 1;
+        t = seconds::played(list, c, t);
     }
     t
 }

@@ -73,11 +73,8 @@ fn gives(c: Case, r: Recovery, t: Tally) -> Given {
         recovery: r,
         tally: t,
     };
-    let mut place = 0;
-    while place < c.n {
-        let next = give(c, g, place);
-        g = next;
-        place += 1;
+    for place in 0..c.n {
+        g = give(c, g, place);
     }
     g
 }
@@ -170,11 +167,8 @@ fn one(list: &[u32], c: Case, r: Recovery, pile: Pile, t: Tally, k: u32) -> Tall
 // Every record of the roster, in both kinds and in every mix of its serials.
 fn records(list: &[u32], c: Case, r: Recovery, pile: Pile, tally: Tally) -> Tally {
     let mut t = tally;
-    let mut k = 0u32;
-    while k < 1024 {
-        let next = one(list, c, r, pile, t, k);
-        t = next;
-        k += 1;
+    for k in 0..1024 {
+        t = one(list, c, r, pile, t, k);
     }
     t
 }

@@ -1,7 +1,7 @@
 // Lists of serials: what an opening meets, where a serial stands, and a roster in bytes beside a list.
 use crate::stage::Stage;
 use crate::{say as told, stage};
-use serials::{Listed, Serial};
+use serials::Serial;
 use std::io::{self, Stdout};
 use trials::{outcomes, parts, say};
 
@@ -11,14 +11,12 @@ pub fn numbers(to: Stdout, s: Stage, words: &[u8]) -> io::Result<()> {
     let of = list.of;
     say::text(to, b" -> ")?;
     match rosters::check(parts::of_script(&of, list.count)) {
-        Listed::Refused(fault) => told::refused(to, fault)?,
-        Listed::Sound => say::text(to, b"sound")?,
+        Err(fault) => told::refused(to, fault)?,
+        Ok(()) => say::text(to, b"sound")?,
     }
     say::text(to, b", first fault ")?;
-    say::number(
-        to,
-        rosters::first_fault(parts::of_script(&of, list.count)) as u64,
-    )
+    let fault = rosters::first_fault(parts::of_script(&of, list.count));
+    say::number(to, outcomes::happening(fault))
 }
 
 // Where a serial stands on a roster, looked for from a place on first.
@@ -59,14 +57,7 @@ pub fn is(to: Stdout, s: Stage, words: &[u8]) -> io::Result<()> {
 
 // How many of a list are not 5.
 fn changed(list: &[u32; 128]) -> u64 {
-    let mut n = 0u64;
-    let mut i = 0;
-    while i < 128 {
-        let one = outcomes::truth(list[i] != 5);
-        n = std::num::wrapping_add_u64(n, one);
-        i += 1;
-    }
-    n
+    list.iter().filter(|x| **x != 5).count() as u64
 }
 
 fn serial(to: Stdout, x: u32) -> io::Result<()> {

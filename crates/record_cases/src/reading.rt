@@ -1,12 +1,13 @@
 // Readers: from a stream, alone, for the ticket desk, by the order of the group.
 use crate::say as told;
 use crate::stage::{Serials, Stage};
-use layouts::{Reading, Sight};
+use layouts::Record;
+use refusals::Refusal;
 use std::io::{self, Stdout};
 use trials::{parts, say};
 
 // The record from a position on.
-fn stream(bytes: &[u8], at: usize, firsts: Serials, seconds: Serials) -> Reading {
+fn stream(bytes: &[u8], at: usize, firsts: Serials, seconds: Serials) -> Result<Record, Refusal> {
     let one = firsts.of;
     let two = seconds.of;
     records::read(
@@ -17,7 +18,7 @@ fn stream(bytes: &[u8], at: usize, firsts: Serials, seconds: Serials) -> Reading
     )
 }
 
-fn alone(bytes: &[u8], firsts: Serials, seconds: Serials) -> Reading {
+fn alone(bytes: &[u8], firsts: Serials, seconds: Serials) -> Result<Record, Refusal> {
     let one = firsts.of;
     let two = seconds.of;
     records::read_lone(
@@ -27,7 +28,7 @@ fn alone(bytes: &[u8], firsts: Serials, seconds: Serials) -> Reading {
     )
 }
 
-fn ordered(bytes: &[u8], firsts: Serials, seconds: Serials) -> Reading {
+fn ordered(bytes: &[u8], firsts: Serials, seconds: Serials) -> Result<Record, Refusal> {
     let one = firsts.of;
     let two = seconds.of;
     let order = orders::order(parts::of_script(&one, firsts.count));
@@ -62,16 +63,16 @@ fn desk(
         told::sight(to, got, roster)?;
     }
     match got {
-        Sight::Refused(fault) => Ok(fault),
-        Sight::Seen(_, _) => Ok(0),
+        Err(fault) => Ok(fault as u8),
+        Ok(_) => Ok(0),
     }
 }
 
 // A reading's refusal, 0 for none.
-fn fault(got: Reading) -> u8 {
+fn fault(got: Result<Record, Refusal>) -> u8 {
     match got {
-        Reading::Refused(number) => number,
-        Reading::Read(_) => 0,
+        Err(refusal) => refusal as u8,
+        Ok(_) => 0,
     }
 }
 
@@ -88,10 +89,8 @@ fn faults(to: Stdout, bytes: &[u8], firsts: Serials, seconds: Serials) -> io::Re
 
 // Every cut of the bytes, from none of them on.
 fn cuts(to: Stdout, bytes: &[u8], firsts: Serials, seconds: Serials) -> io::Result<()> {
-    let mut k = 0;
-    while k < bytes.len() {
-        faults(to, scripts::part(bytes, 0, k), firsts, seconds)?;
-        k += 1;
+    for k in 0..bytes.len() {
+        faults(to, &bytes[..k], firsts, seconds)?;
     }
     Ok(())
 }

@@ -1,12 +1,13 @@
 // The answers of readers, behind their line.
 use histories::Kind;
-use layouts::{Reading, Sight};
+use layouts::{Record, Sight};
+use refusals::Refusal;
 use sets::{Place, PlaceSet};
 use std::io::{self, Stdout};
 use trials::say;
 
-pub fn refused(to: Stdout, fault: u8) -> io::Result<()> {
-    print!(to; "refused {fault}")
+pub fn refused(to: Stdout, refusal: Refusal) -> io::Result<()> {
+    print!(to; "refused {}", refusal as u8)
 }
 
 fn kind(to: Stdout, k: Kind) -> io::Result<()> {
@@ -26,10 +27,10 @@ fn members(to: Stdout, set: PlaceSet) -> io::Result<()> {
     Ok(())
 }
 
-pub fn reading(to: Stdout, got: Reading) -> io::Result<()> {
+pub fn reading(to: Stdout, got: Result<Record, Refusal>) -> io::Result<()> {
     match got {
-        Reading::Refused(fault) => refused(to, fault),
-        Reading::Read(record) => {
+        Err(fault) => refused(to, fault),
+        Ok(record) => {
             let k = record.kind;
             let own = record.own;
             let mourned = record.mourned;
@@ -42,12 +43,12 @@ pub fn reading(to: Stdout, got: Reading) -> io::Result<()> {
     }
 }
 
-pub fn sight(to: Stdout, got: Sight, roster: &[u8]) -> io::Result<()> {
+pub fn sight(to: Stdout, got: Result<Sight, Refusal>, roster: &[u8]) -> io::Result<()> {
     match got {
-        Sight::Refused(fault) => refused(to, fault)?,
-        Sight::Seen(k, own) => {
-            kind(to, k)?;
-            print!(to; ", own serial {}", own.0)?;
+        Err(fault) => refused(to, fault)?,
+        Ok(seen) => {
+            kind(to, seen.kind)?;
+            print!(to; ", own serial {}", seen.own.0)?;
         }
     }
     print!(to; ", part of {}", roster.len())?;

@@ -17,12 +17,8 @@ fn kind(said: List) -> Kind {
 // The set of the places of a list.
 fn set(said: List) -> PlaceSet {
     let mut heard = places::empty();
-    for k in 0usize..300 {
-        if said.count <= k {
-            return heard;
-        }
-        let next = places::with(heard, Place(scripts::number(said, k) as usize));
-        heard = next;
+    for x in said.of.iter().take(said.count) {
+        heard = places::with(heard, Place(*x as usize));
     }
     heard
 }

@@ -2,6 +2,7 @@
 #![tactic(auto)]
 
 pub use heads::read_desk;
-pub use layouts::{Reading, Record, Sight, Writing};
+pub use layouts::{Record, Sight};
 pub use readings::{read, read_like, read_lone};
+pub use refusals::Refusal;
 pub use roster_bytes::{copy_roster, roster_is};

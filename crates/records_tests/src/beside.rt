@@ -4,14 +4,7 @@ use std::io::{self, Stdout};
 
 // Whether all serials from a place on are x.
 fn all_from(list: &[u32; 128], from: usize, x: u32) -> bool {
-    let mut i = from;
-    while i < 128 {
-        if list[i] != x {
-            return false;
-        }
-        i += 1;
-    }
-    true
+    list.iter().skip(from).all(|y| *y == x)
 }
 
 // Compares the roster 7 9 12, in bytes from position 1 on, with a list.

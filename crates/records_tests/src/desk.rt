@@ -3,7 +3,6 @@ ghost use Rattle.std.specs.Prelude.{◌≤◌};
 
 use crate::{lists, reading, say, streams};
 use histories::Kind;
-use records::Sight;
 use sets::Place;
 use std::io::{self, Stdout};
 
@@ -37,15 +36,6 @@ pub fn kept(to: Stdout) -> io::Result<()> {
     over(to, b"refused, over all of it", cut, 9)
 }
 
-fn one_if_seen(got: Sight) -> usize
-    ensures { result ≤ 1 }
-{
-    match got {
-        Sight::Seen(_, _) => 1,
-        Sight::Refused(_) => 0,
-    }
-}
-
 // 1 where the desk is shown something of bytes that `read_lone` refuses by a number, 0 elsewhere.
 fn shown_but_refused(bytes: &[u8], fault: u8) -> usize
     ensures { result ≤ 1 }
@@ -54,7 +44,7 @@ fn shown_but_refused(bytes: &[u8], fault: u8) -> usize
     let none = &list[..0];
     let mut roster = &bytes[..0];
     let got = records::read_desk(bytes, none, none, &mut roster);
-    if one_if_seen(got) == 0 {
+    if got.is_err() {
         return 0;
     }
     streams::one_if(reading::read_lone(bytes), fault)
@@ -63,11 +53,8 @@ fn shown_but_refused(bytes: &[u8], fault: u8) -> usize
 // How many cuts of the bytes, from none of them on, are shown to the desk and so refused.
 fn cuts(bytes: &[u8], fault: u8) -> usize {
     let mut n = 0;
-    let mut k = 0;
-    while k < bytes.len() {
-        let one = shown_but_refused(&bytes[..k], fault);
-        n += one;
-        k += 1;
+    for k in 0..bytes.len() {
+        n += shown_but_refused(&bytes[..k], fault);
     }
     n
 }
@@ -94,7 +81,7 @@ fn front(to: Stdout, name: &[u8], bytes: &[u8], n: usize) -> io::Result<()> {
     let none = &list[..0];
     let mut roster = &those[..0];
     let got = records::read_desk(those, none, none, &mut roster);
-    say::count(to, name, one_if_seen(got))?;
+    say::count(to, name, usize::from(got.is_ok()))?;
     say::count(to, b"bytes in its part", roster.len())
 }
 
@@ -104,7 +91,7 @@ pub fn longest(to: Stdout) -> io::Result<()> {
     lists::fill(&mut list, 65536);
     let mut out = [0u8; 1031];
     let all = places::below(128);
-    writes::write(Kind::Full, Place(127), &list, all, &mut out, 0);
+    let _ = writes::write(Kind::Full, Place(127), &list, all, &mut out, 0);
     front(to, b"the longest record is shown", &out, 1031)?;
     front(to, b"cut at its roster's end", &out, 518)?;
     front(to, b"cut one byte earlier", &out, 517)

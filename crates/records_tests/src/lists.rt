@@ -8,45 +8,34 @@ use std::io::{self, Stdout};
 // The list x, 2x, 3x and so on.
 pub fn fill(list: &mut [u32], x: u32) {
     let mut y = 0u32;
-    let mut i = 0;
-    while i < list.len() {
-        y = std::num::wrapping_add_u32(y, x);
-        list[i] = y;
-        i += 1;
+    for serial in list.iter_mut() {
+        y = y.wrapping_add(x);
+        *serial = y;
     }
 }
 
 // Where a serial stands in a list, looked for from a place on first, in a group that has no second serials.
-fn look_up(list: &[u32], from: usize, x: u32) -> Finding {
+fn look_up(list: &[u32], from: usize, x: u32) -> Option<Finding> {
     let zero = [0u32; 1];
     let none = &zero[..0];
     lookups::look_up(list, from, none, none, Serial(x))
 }
 
 // 1 where the place was found by its first serial, 0 elsewhere.
-fn one_if(found: Finding, place: usize) -> usize
+fn one_if(found: Option<Finding>, place: usize) -> usize
     ensures { result ≤ 1 }
 {
     match found {
-        Finding::Nothing => 0,
-        Finding::Second(_) => 0,
-        Finding::First(at) => {
-            if at.0 == place {
-                return 1;
-            }
-            0
-        }
+        Some(Finding::First(at)) if at.0 == place => 1,
+        _ => 0,
     }
 }
 
 // How many serials of a list are found at their own places.
 pub fn at_home(list: &[u32]) -> usize {
     let mut n = 0;
-    let mut i = 0;
-    while i < list.len() {
-        let one = one_if(look_up(list, 0, list[i]), i);
-        n += one;
-        i += 1;
+    for (i, x) in list.iter().enumerate() {
+        n += one_if(look_up(list, 0, *x), i);
     }
     n
 }
@@ -56,8 +45,11 @@ fn opened(to: Stdout, name: &[u8], list: &[u32]) -> io::Result<()> {
 }
 
 fn faulty(to: Stdout, name: &[u8], list: &[u32]) -> io::Result<()> {
-    let fault = rosters::first_fault(list);
-    say::count(to, name, fault as usize)
+    let fault = match rosters::first_fault(list) {
+        Ok(()) => 0,
+        Err(refusal) => refusal as usize,
+    };
+    say::count(to, name, fault)
 }
 
 fn sought(to: Stdout, name: &[u8], list: &[u32], x: u32) -> io::Result<()> {
@@ -164,11 +156,9 @@ pub fn finding(to: Stdout) -> io::Result<()> {
 // The serials that differ from x in one bit, the lowest first, and after 32 of them x itself.
 pub fn one_bit(list: &mut [u32], x: u32) {
     let mut bit = 1u32;
-    let mut i = 0;
-    while i < list.len() {
-        list[i] = x ^ bit;
-        bit = std::num::wrapping_add_u32(bit, bit);
-        i += 1;
+    for serial in list.iter_mut() {
+        *serial = x ^ bit;
+        bit = bit.wrapping_add(bit);
     }
 }
 

@@ -4,7 +4,8 @@
 ghost use Rattle.std.specs.Prelude.{◌≤◌, length, IfOk};
 
 use crate::{desk, say};
-use records::Reading;
+use records::Record;
+use refusals::Refusal;
 use std::io::{self, Read, Stdin, Stdout};
 
 // Reads until the buffer is full or the input has ended, and says how many bytes came.
@@ -80,19 +81,13 @@ fn decode(text: &[u8], out: &mut [u8]) -> usize
 {
     let mut n = 0;
     let mut high = 16;
-    let mut i = 0;
-    while i < text.len() {
-        let v = digit(text[i]);
+    for c in text {
+        let v = digit(*c);
         store(out, n, byte(high, v));
-        let one = made(high, v);
-        n += one;
+        n += made(high, v);
         high = after(high, v);
-        i += 1;
     }
-    if out.len() < n {
-        return out.len();
-    }
-    n
+    n.min(out.len())
 }
 
 // The first position of a byte from a position on, or the end.
@@ -100,25 +95,19 @@ fn find(bytes: &[u8], from: usize, x: u8) -> usize
     requires { from ≤ length bytes.now }
     ensures { (from ≤ result) × (result ≤ length bytes.now) }
 {
-    let mut i = from;
-    while i < bytes.len() {
-        if bytes[i] == x {
-            return i;
-        }
-        i += 1;
-    }
-    i
+    let rest = &bytes[from..];
+    from + rest.iter().position(|y| *y == x).unwrap_or(rest.len())
 }
 
 // Reads one of a stream for a group that has no second serials.
-pub fn read(bytes: &[u8], at: usize) -> Reading {
+pub fn read(bytes: &[u8], at: usize) -> Result<Record, Refusal> {
     let list = [0u32; 1];
     let none = &list[..0];
     records::read(bytes, at, none, none)
 }
 
 // Reads a lone record for such a group.
-pub fn read_lone(bytes: &[u8]) -> Reading {
+pub fn read_lone(bytes: &[u8]) -> Result<Record, Refusal> {
     let list = [0u32; 1];
     let none = &list[..0];
     records::read_lone(bytes, none, none)

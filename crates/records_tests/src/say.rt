@@ -1,7 +1,8 @@
 // One printed line for each case: its name, and the answer that it got.
 use histories::Kind;
-use records::{Reading, Sight, Writing};
-use serials::{Finding, Listed};
+use records::{Record, Sight};
+use refusals::Refusal;
+use serials::Finding;
 use sets::{Place, PlaceSet};
 use std::io::{self, Stdout};
 
@@ -18,8 +19,8 @@ fn title(to: Stdout, name: &[u8]) -> io::Result<()> {
     text(to, b": ")
 }
 
-fn refused(to: Stdout, fault: u8) -> io::Result<()> {
-    println!(to; "refused {fault}")
+fn refused(to: Stdout, refusal: Refusal) -> io::Result<()> {
+    println!(to; "refused {}", refusal as u8)
 }
 
 fn kind(to: Stdout, k: Kind) -> io::Result<()> {
@@ -39,11 +40,11 @@ fn members(to: Stdout, set: PlaceSet) -> io::Result<()> {
     Ok(())
 }
 
-pub fn reading(to: Stdout, name: &[u8], got: Reading) -> io::Result<()> {
+pub fn reading(to: Stdout, name: &[u8], got: Result<Record, Refusal>) -> io::Result<()> {
     title(to, name)?;
     match got {
-        Reading::Refused(fault) => refused(to, fault),
-        Reading::Read(record) => {
+        Err(fault) => refused(to, fault),
+        Ok(record) => {
             kind(to, record.kind)?;
             print!(to; ", place {} of {}", record.own.0, record.count)?;
             print!(to; ", roster at {}, mourned", record.roster)?;
@@ -61,41 +62,46 @@ fn bytes(to: Stdout, part: &[u8]) -> io::Result<()> {
     text(to, b"\n")
 }
 
-pub fn sight(to: Stdout, name: &[u8], got: Sight, roster: &[u8]) -> io::Result<()> {
+pub fn sight(
+    to: Stdout,
+    name: &[u8],
+    got: Result<Sight, Refusal>,
+    roster: &[u8],
+) -> io::Result<()> {
     title(to, name)?;
     match got {
-        Sight::Refused(fault) => print!(to; "refused {fault}")?,
-        Sight::Seen(k, own) => {
-            kind(to, k)?;
-            print!(to; ", own serial {}", own.0)?;
+        Err(refusal) => print!(to; "refused {}", refusal as u8)?,
+        Ok(seen) => {
+            kind(to, seen.kind)?;
+            print!(to; ", own serial {}", seen.own.0)?;
         }
     }
     text(to, b", part")?;
     bytes(to, roster)
 }
 
-pub fn listed(to: Stdout, name: &[u8], got: Listed) -> io::Result<()> {
+pub fn listed(to: Stdout, name: &[u8], got: Result<(), Refusal>) -> io::Result<()> {
     title(to, name)?;
     match got {
-        Listed::Refused(fault) => refused(to, fault),
-        Listed::Sound => text(to, b"sound\n"),
+        Err(fault) => refused(to, fault),
+        Ok(()) => text(to, b"sound\n"),
     }
 }
 
-pub fn found(to: Stdout, name: &[u8], got: Finding) -> io::Result<()> {
+pub fn found(to: Stdout, name: &[u8], got: Option<Finding>) -> io::Result<()> {
     title(to, name)?;
     match got {
-        Finding::Nothing => text(to, b"nothing\n"),
-        Finding::First(place) => println!(to; "place {}", place.0),
-        Finding::Second(place) => println!(to; "place {}, its second serial", place.0),
+        None => text(to, b"nothing\n"),
+        Some(Finding::First(place)) => println!(to; "place {}", place.0),
+        Some(Finding::Second(place)) => println!(to; "place {}, its second serial", place.0),
     }
 }
 
-pub fn writing(to: Stdout, name: &[u8], got: Writing) -> io::Result<()> {
+pub fn writing(to: Stdout, name: &[u8], got: Result<usize, Refusal>) -> io::Result<()> {
     title(to, name)?;
     match got {
-        Writing::Refused(fault) => refused(to, fault),
-        Writing::Next(next) => println!(to; "next {next}"),
+        Err(fault) => refused(to, fault),
+        Ok(next) => println!(to; "next {next}"),
     }
 }
 

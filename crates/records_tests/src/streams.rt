@@ -3,33 +3,26 @@ ghost use Rattle.std.specs.Prelude.{◌≤◌};
 
 use crate::{lists, reading, say};
 use histories::Kind;
-use records::Reading;
+use records::Record;
+use refusals::Refusal;
 use sets::Place;
 use std::io::{self, Stdout};
 
 // 1 where the reading was refused by a number, 0 elsewhere.
-pub fn one_if(got: Reading, fault: u8) -> usize
+pub fn one_if(got: Result<Record, Refusal>, fault: u8) -> usize
     ensures { result ≤ 1 }
 {
     match got {
-        Reading::Read(_) => 0,
-        Reading::Refused(number) => {
-            if number == fault {
-                return 1;
-            }
-            0
-        }
+        Err(refusal) if refusal as u8 == fault => 1,
+        _ => 0,
     }
 }
 
 // How many cuts of the bytes, from none of them on, are refused by a number.
 fn cuts(bytes: &[u8], fault: u8) -> usize {
     let mut n = 0;
-    let mut k = 0;
-    while k < bytes.len() {
-        let one = one_if(reading::read(&bytes[..k], 0), fault);
-        n += one;
-        k += 1;
+    for k in 0..bytes.len() {
+        n += one_if(reading::read(&bytes[..k], 0), fault);
     }
     n
 }
@@ -52,12 +45,12 @@ pub fn listing(to: Stdout) -> io::Result<()> {
         b"\x02\x00\x00\x00\x65\x04\x00\x00\x00\x65\x00\x00\x00\x66\x00\x00\x00\x67\x00\x00\x00\x68\x00\x02\x00\x00\x00\x68\x04\x00\x00\x00\x65\x00\x00\x00\x66\x00\x00\x00\x67\x00\x00\x00\x68\x02\x00\x00\x00\x66\x00\x00\x00\x67";
     let first = reading::read(bytes, 0);
     say::reading(to, b"the listing's first", first)?;
-    let Reading::Read(one) = first else {
+    let Ok(one) = first else {
         return Ok(());
     };
     let second = reading::read(bytes, one.next);
     say::reading(to, b"the listing's second", second)?;
-    let Reading::Read(two) = second else {
+    let Ok(two) = second else {
         return Ok(());
     };
     say::reading(to, b"the listing's end", reading::read(bytes, two.next))
@@ -94,7 +87,7 @@ fn longest_with(to: Stdout, name: &[u8], roster: u8, mourned: u8) -> io::Result<
     lists::fill(&mut list, 65536);
     let mut out = [0u8; 1031];
     let all = places::below(128);
-    writes::write(Kind::Full, Place(127), &list, all, &mut out, 0);
+    let _ = writes::write(Kind::Full, Place(127), &list, all, &mut out, 0);
     out[5] = roster;
     out[518] = mourned;
     lone(to, name, &out)?;

@@ -129,21 +129,10 @@ pub fn ordered(to: Stdout) -> io::Result<()> {
     )
 }
 
-// A byte of the longest record: its roster's section of first serials, all else of second ones.
-fn mixed(i: usize, first: u8, second: u8) -> u8 {
-    if i < 5 {
-        return second;
-    }
-    if i < 519 {
-        return first;
-    }
-    second
-}
-
+// The longest record with its roster's section of first serials, all else of second ones.
 fn mix(out: &mut [u8; 1031], second: &[u8; 1031]) {
-    for i in 0..1031 {
-        out[i] = mixed(i, out[i], second[i]);
-    }
+    out[..5].copy_from_slice(&second[..5]);
+    out[519..].copy_from_slice(&second[519..]);
 }
 
 fn read_longest(
@@ -166,8 +155,8 @@ pub fn longest(to: Stdout) -> io::Result<()> {
     let all = places::below(128);
     let mut out = [0u8; 1031];
     let mut other = [0u8; 1031];
-    writes::write(Kind::Full, Place(127), &firsts, all, &mut out, 0);
-    writes::write(Kind::Full, Place(127), &seconds, all, &mut other, 0);
+    let _ = writes::write(Kind::Full, Place(127), &firsts, all, &mut out, 0);
+    let _ = writes::write(Kind::Full, Place(127), &seconds, all, &mut other, 0);
     mix(&mut out, &other);
     read_longest(
         to,

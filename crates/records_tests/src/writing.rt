@@ -1,38 +1,12 @@
 // Writing a record into a lent buffer: document 01's listing, second record, of 31 bytes.
-ghost use Rattle.std.specs.Prelude.{◌≤◌};
-
 use crate::{reading, say};
 use histories::Kind;
 use sets::Place;
 use std::io::{self, Stdout};
 
-// Whether two lists of bytes are the same.
-fn same(a: &[u8], b: &[u8]) -> bool {
-    if a.len() != b.len() {
-        return false;
-    }
-    let mut i = 0;
-    while i < a.len() {
-        if a[i] != b[i] {
-            return false;
-        }
-        i += 1;
-    }
-    true
-}
-
-// Whether every byte from one position up to another is 0xaa.
-fn untouched(bytes: &[u8; 40], from: usize, to: usize) -> bool
-    requires { to ≤ 40 }
-{
-    let mut i = from;
-    while i < to {
-        if bytes[i] != 0xaa {
-            return false;
-        }
-        i += 1;
-    }
-    true
+// Whether every byte is 0xaa.
+fn untouched(bytes: &[u8]) -> bool {
+    bytes.iter().all(|x| *x == 0xaa)
 }
 
 // Writes the record of a place of 0x65 0x66 0x67 0x68 that heard of the second and the third, 31 bytes.
@@ -79,9 +53,9 @@ pub fn back(to: Stdout) -> io::Result<()> {
         b"the listing's second, written",
         writes::write(Kind::Short, Place(3), &roster, heard, &mut out, 3),
     )?;
-    say::truth(to, b"the same bytes", same(&out[3..34], bytes))?;
-    say::truth(to, b"nothing before it", untouched(&out, 0, 3))?;
-    say::truth(to, b"nothing after it", untouched(&out, 34, 40))?;
+    say::truth(to, b"the same bytes", &out[3..34] == bytes.as_slice())?;
+    say::truth(to, b"nothing before it", untouched(&out[..3]))?;
+    say::truth(to, b"nothing after it", untouched(&out[34..]))?;
     read_at(to, b"and read again", &out, 3)
 }
 
@@ -108,7 +82,7 @@ pub fn of_one(to: Stdout) -> io::Result<()> {
         b"place 0 of 1",
         writes::write(Kind::Short, Place(0), &one, off, &mut out, 29),
     )?;
-    say::truth(to, b"nothing before it", untouched(&out, 0, 29))?;
+    say::truth(to, b"nothing before it", untouched(&out[..29]))?;
     read_at(to, b"and read again", &out, 29)
 }
 
@@ -128,7 +102,7 @@ pub fn refused(to: Stdout) -> io::Result<()> {
         41,
     )?;
     write_for(to, b"place 0 of 129, past the end", 0, &long, &mut out, 41)?;
-    say::truth(to, b"nothing changed", untouched(&out, 0, 40))
+    say::truth(to, b"nothing changed", untouched(&out))
 }
 
 // The refusal 13, and the last position where the record fits.
@@ -144,6 +118,6 @@ pub fn too_short(to: Stdout) -> io::Result<()> {
         &mut out,
         18446744073709551615,
     )?;
-    say::truth(to, b"nothing changed", untouched(&out, 0, 40))?;
+    say::truth(to, b"nothing changed", untouched(&out))?;
     write(to, b"just long enough", 3, &mut out, 9)
 }

@@ -1,6 +1,7 @@
 -- What a record that was read says of the bytes that it was read from. Assumes nothing.
 use mathlib.Core.Path.{◌≡◌, refl, sym, ap, subst, ◌∙◌}
 use mathlib.Core.List.{List, [], ◌∷◌, ◌++◌}
+use Rattle.std.specs.Prelude.{Ok}
 use Prim.Native.Nat.{ℕ, ◌+◌, ◌-◌, ◌*◌, ◌≤◌}
 use native.Mathlib.Omega.{arith}
 use lib.ListN.{length, take, drop, length-append, length-drop}
@@ -10,7 +11,6 @@ use Rattle.sets.specs.PlaceSets.{packed}
 use Rattle.serials.specs.Rosters.{IsRoster, place_of, holds, listed}
 use Rattle.serials.proofs.Rosters.{listed_sound}
 use Rattle.layouts.specs.declared.Record.{Record}
-use Rattle.layouts.specs.declared.Reading.TheVariants.{Read}
 use Rattle.serials.specs.Seconds.{itself}
 use Rattle.layouts.specs.Layout.{Parsed, got, refused, Stored, stored}
 use Rattle.layouts.specs.Records.{reading_of, reading, serials, roster_there, copiable, copied}
@@ -26,15 +26,15 @@ pub record ReadAt (b : List ℕ) (at : ℕ) (x : Record) : Type 0 where
   pub parsed : stored itself (drop at b) ≡ got it rest
   pub is : x ≡ record { kind = it.kind; own = record { 0 = it.own }; roster = at + 6; count = length it.roster; mourned = packed it.mourned; next = length b - length rest }
 
-pub read_at : (b : List ℕ) (at : ℕ) (x : Record) → reading itself b at ≡ Read x → ReadAt b at x
+pub read_at : (b : List ℕ) (at : ℕ) (x : Record) → reading itself b at ≡ Ok x → ReadAt b at x
 unfolding reading reading_of
 read_at b at x e = go (stored itself (drop at b)) refl e
   where
-    go : (p : Parsed Stored) → stored itself (drop at b) ≡ p → reading_of (length b) at p ≡ Read x → ReadAt b at x
+    go : (p : Parsed Stored) → stored itself (drop at b) ≡ p → reading_of (length b) at p ≡ Ok x → ReadAt b at x
     go (got y rest) f g = record { it = y; rest = rest; parsed = f; is = let h : x ≡ record { kind = y.kind; own = record { 0 = y.own }; roster = at + 6; count = length y.roster; mourned = packed y.mourned; next = length b - length rest } = cc in h }
     go (refused j) f g = let z : ◌≡◌ {A = ℕ} 0 1 = cc in absurd (omega arith)
 
-module _ (b : List ℕ) (at : ℕ) (x : Record) (e : reading itself b at ≡ Read x) where
+module _ (b : List ℕ) (at : ℕ) (x : Record) (e : reading itself b at ≡ Ok x) where
   read : ReadAt b at x
   read = read_at b at x e
 
@@ -78,7 +78,7 @@ unfolding opened opened_as
 opened_roster s i = rw ((listed_sound s).1 i)
 
 -- the recovery that the record opens
-pub opened_is : (b : List ℕ) (at : ℕ) (x : Record) → reading itself b at ≡ Read x → (list after : List ℕ) → after ≡ copied b x.roster x.count list
+pub opened_is : (b : List ℕ) (at : ℕ) (x : Record) → reading itself b at ≡ Ok x → (list after : List ℕ) → after ≡ copied b x.roster x.count list
     → (o : Opened) → o ≡ opened (take x.count after) → o.recovery ≡ fresh (serials x.count (drop x.roster b))
 opened_is b at x e list after f o g =
     ap (λ (z : Opened). z.recovery) g

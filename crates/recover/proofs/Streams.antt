@@ -1,4 +1,7 @@
 -- A record is read the same, whatever follows the longest there is: 1,031 bytes are enough to read on. Assumes nothing.
+use Rattle.refusals.specs.declared.Refusal.{Refusal}
+use Rattle.refusals.specs.declared.Refusal.TheVariants as R
+use Rattle.std.specs.Prelude.{Option, Some, None, Result, Ok, Err}
 use mathlib.Core.Path.{◌≡◌, refl, ap, ap₂, ◌∙◌}
 use mathlib.Core.Bool.{Bool, true, false, not}
 use mathlib.Core.List.{List, [], ◌∷◌, ◌++◌}
@@ -13,7 +16,6 @@ use Rattle.sets.specs.PlaceSets.{packed}
 use Rattle.serials.specs.Rosters.{holds}
 use Rattle.serials.specs.Seconds.{itself}
 use Rattle.layouts.specs.Layout.{Parsed, got, refused, then, check, byte, word_at, serial, known_kind, kind_of, kind_section, roster_serials, roster_section, is_on, place_on, head_section, mourned_serials, mourned_section, Stored, stored}
-use Rattle.layouts.specs.declared.Reading.TheVariants.{Read}
 use Rattle.layouts.specs.Records.{reading_of, reading}
 use Rattle.layouts.proofs.Layouts.{head_back}
 use Rattle.layouts.proofs.Follows.{onto, then_onto, byte_onto, serial_four, serial_onto}
@@ -35,7 +37,7 @@ record Looks {A : Type 0} (k : ℕ) (p : List ℕ → Parsed A) : Type 0 where
 looks_got : {A : Type 0} (a : A) → Looks 0 (λ s. got a s)
 looks_got a = record { same = λ s more h. refl; leaves = λ s h. omega arith }
 
-looks_check : {A : Type 0} (b : Bool) (j : ℕ) {k : ℕ} {p : List ℕ → Parsed A} → Looks k p → Looks k (λ s. check b j (p s))
+looks_check : {A : Type 0} (b : Bool) (j : Refusal) {k : ℕ} {p : List ℕ → Parsed A} → Looks k p → Looks k (λ s. check b j (p s))
 unfolding check
 looks_check true j f = f
 looks_check false j f = record { same = λ s more h. refl; leaves = λ s h. tt }
@@ -83,7 +85,7 @@ looks_serial : Looks 4 serial
 unfolding check
 looks_serial = record { same = serial_onto; leaves = leaves }
   where
-    spelt : (w a b c d : ℕ) (t : List ℕ) (v : Bool) → Leaves 4 (a ∷ b ∷ c ∷ d ∷ t) (check v 4 (got w t))
+    spelt : (w a b c d : ℕ) (t : List ℕ) (v : Bool) → Leaves 4 (a ∷ b ∷ c ∷ d ∷ t) (check v R.ZeroSerial (got w t))
     spelt w a b c d t true = omega arith
     spelt w a b c d t false = tt
 
@@ -96,38 +98,38 @@ looks_serial = record { same = serial_onto; leaves = leaves }
 
 looks_kind : Looks 1 kind_section
 unfolding kind_section
-looks_kind = looks_then byte _ looks_byte (λ k. looks_check (known_kind k) 2 (looks_got (kind_of k)))
+looks_kind = looks_then byte _ looks_byte (λ k. looks_check (known_kind k) R.UnknownKind (looks_got (kind_of k)))
 
 looks_roster_serials : (n : ℕ) (seen : List ℕ) → Looks (4 * n) (roster_serials n seen)
 unfolding roster_serials
 looks_roster_serials zero seen = looks_got seen
 looks_roster_serials (suc n) seen =
-    looks_more (omega arith) (looks_then serial _ looks_serial (λ x. looks_check (not (holds x seen)) 5 (looks_roster_serials n (seen ++ (x ∷ [])))))
+    looks_more (omega arith) (looks_then serial _ looks_serial (λ x. looks_check (not (holds x seen)) R.Twice (looks_roster_serials n (seen ++ (x ∷ [])))))
 
 -- a count that is too large is refused at once
-looks_few : {A : Type 0} (n most : ℕ) {p : List ℕ → Parsed A} → Looks (4 * n) p → Looks (4 * most) (λ s. check (leb n most) 3 (p s))
+looks_few : {A : Type 0} (n most : ℕ) {p : List ℕ → Parsed A} → Looks (4 * n) p → Looks (4 * most) (λ s. check (leb n most) R.BadCount (p s))
 unfolding check
 looks_few {A} n most {p} f = go (leb n most) refl
   where
-    go : (b : Bool) → leb n most ≡ b → Looks (4 * most) (λ s. check b 3 (p s))
+    go : (b : Bool) → leb n most ≡ b → Looks (4 * most) (λ s. check b R.BadCount (p s))
     go true e = let l : n ≤ most = leb-true n most e in looks_more (omega arith) f
     go false e = record { same = λ s more h. refl; leaves = λ s h. tt }
 
 looks_roster : Looks 513 roster_section
 unfolding roster_section
-looks_roster = looks_then byte _ looks_byte (λ n. looks_check (leb 1 n) 3 (looks_few n 128 (looks_roster_serials n [])))
+looks_roster = looks_then byte _ looks_byte (λ n. looks_check (leb 1 n) R.BadCount (looks_few n 128 (looks_roster_serials n [])))
 
 looks_head : (alias : ℕ → ℕ) → Looks 518 (head_section alias)
 unfolding head_section
 looks_head alias =
-    looks_then kind_section _ looks_kind (λ k. looks_then serial _ looks_serial (λ own. looks_then roster_section _ looks_roster (λ r. looks_check (is_on alias r own) 6 (looks_got _))))
+    looks_then kind_section _ looks_kind (λ k. looks_then serial _ looks_serial (λ own. looks_then roster_section _ looks_roster (λ r. looks_check (is_on alias r own) R.NotOnRoster (looks_got _))))
 
 looks_mourned_serials : (alias : ℕ → ℕ) (m : ℕ) (r : List ℕ) (from : ℕ) (M : Places) → Looks (4 * m) (mourned_serials alias m r from M)
 unfolding mourned_serials
 looks_mourned_serials alias zero r from M = looks_got M
 looks_mourned_serials alias (suc m) r from M =
     looks_more (omega arith)
-    (looks_then serial _ looks_serial (λ x. looks_check (is_on alias r x) 6 (looks_check (leb from (place_on alias r x)) 7 (looks_mourned_serials alias m r (suc (place_on alias r x)) (with (place_on alias r x) M)))))
+    (looks_then serial _ looks_serial (λ x. looks_check (is_on alias r x) R.NotOnRoster (looks_check (leb from (place_on alias r x)) R.OutOfOrder (looks_mourned_serials alias m r (suc (place_on alias r x)) (with (place_on alias r x) M)))))
 
 looks_mourned : (alias : ℕ → ℕ) (r : List ℕ) → Looks (1 + 4 * length r) (mourned_section alias r)
 unfolding mourned_section
@@ -151,7 +153,7 @@ enough alias b more at h =
     go : (p : Parsed Stored) → reading_of (length b + length more) at (onto more p) ≡ reading_of (length b) at p
     go (got x rest) =
         let e : length b + length more - length (rest ++ more) ≡ length b - length rest = omega (arith, length-append rest more) in
-        ap (λ (n : ℕ). Read (record { kind = x.kind; own = record { 0 = x.own }; roster = at + 6; count = length x.roster; mourned = packed x.mourned; next = n })) e
+        ap (λ (n : ℕ). Ok (record { kind = x.kind; own = record { 0 = x.own }; roster = at + 6; count = length x.roster; mourned = packed x.mourned; next = n })) e
     go (refused j) = refl
 
 -- so a window that has them ahead has enough

@@ -1,36 +1,22 @@
 -- Laws of the window. Assumes nothing.
-use mathlib.Core.Path.{◌≡◌, sym, ap, ap₂, ◌∙◌}
+use mathlib.Core.Path.{◌≡◌, sym, ap, ◌∙◌}
 use mathlib.Core.Bool.{false}
-use mathlib.Core.List.{List, [], ◌∷◌, ◌++◌}
-use Prim.Native.Nat.{ℕ, ◌+◌, ◌-◌, ◌≤◌, ◌<◌}
+use mathlib.Core.List.{List}
+use Prim.Native.Nat.{ℕ, ◌+◌, ◌-◌, ◌≤◌}
 use native.Mathlib.Omega.{arith}
-use native.Mathlib.Numerals.{add-one}
 use lib.Dec.{ltb}
-use lib.ListN.{length, take, drop, get_or, set, length-drop}
-use lib.Seq.{take-length, length-slice, length-take-le, drop_at, take-add, take-take, take-suc, take-suc-set, drop-set-lt, drop-drop, get_or-drop}
+use lib.ListN.{length, take, drop, length-drop}
+use lib.Seq.{take-length, take_at, length-slice, length-take-le, drop_at, take-add, take-take}
 use borrow.Author.Tests.{ltb-false}
+use Rattle.std.specs.List.{copy_within}
 use Rattle.std.proofs.Common.{Result, Ok, Err, OnErr}
 use Rattle.recover.specs.declared.window.Window.{Window}
 use Rattle.recover.specs.Windows.{ahead, Inside, StartsWith}
 
--- the byte that goes to the front next is still where it was
-next_byte : (b₀ b : List ℕ) (at i : ℕ) → drop i b ≡ drop i b₀ → get_or b (at + i) 0 ≡ get_or (drop at b₀) i 0
-next_byte b₀ b at i e =
-    let c : at + i ≡ i + at = omega arith in
-    rw c (sym (get_or-drop i b at 0)) ∙ ap (λ (l : List ℕ). get_or l at 0) e ∙ get_or-drop i b₀ at 0 ∙ ap (λ (n : ℕ). get_or b₀ n 0) (sym c) ∙ sym (get_or-drop at b₀ i 0)
-
--- one byte more is at the front
-pub front_more : (b₀ b : List ℕ) (at i : ℕ) → length b ≡ length b₀ → at + i < length b₀ → take i b ≡ take i (drop at b₀) → drop i b ≡ drop i b₀
-    → take (i + 1) (set b i (get_or b (at + i) 0)) ≡ take (i + 1) (drop at b₀)
-front_more b₀ b at i l h e f =
-    rw (add-one i)
-    (take-suc-set b i (get_or b (at + i) 0) (omega arith)
-    ∙ ap₂ (λ (s : List ℕ) (x : ℕ). s ++ (x ∷ [])) e (next_byte b₀ b at i f)
-    ∙ sym (take-suc (drop at b₀) i 0 (omega (arith, length-drop at b₀))))
-
-pub back_less : (b₀ b : List ℕ) (i x : ℕ) → drop i b ≡ drop i b₀ → drop (i + 1) (set b i x) ≡ drop (i + 1) b₀
-back_less b₀ b i x f =
-    drop-set-lt (i + 1) b i x (omega arith) ∙ sym (drop-drop 1 i b) ∙ ap (λ (l : List ℕ). drop 1 l) f ∙ drop-drop 1 i b₀
+-- what stands between two positions is moved to the front
+pub moved_front : (b : List ℕ) (i j : ℕ) → i ≤ j → j ≤ length b → take (j - i) (copy_within b i j 0) ≡ take (j - i) (drop i b)
+moved_front b i j h k =
+    take_at (take (j - i) (drop i b)) _ (j - i) (length-take-le (j - i) (drop i b) (omega (arith, length-drop i b)))
 
 -- what is ahead, by its start and its length
 ahead_is : (w : Window) (b : List ℕ) → Inside w b → ahead w b ≡ take (w.have - w.at) (drop w.at b)

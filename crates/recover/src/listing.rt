@@ -1,26 +1,29 @@
 // What a recovery says when the reading is over.
-ghost use Rattle.std.specs.Prelude.{◌≡◌, ◌≤◌, ◌<◌, length, get_or, IfOk, OnErr};
+ghost use Rattle.std.specs.Prelude.{◌≡◌, ◌≤◌, ◌<◌, length, get_or, Result, IfOk, OnErr};
 ghost use Rattle.calls.specs.Promises.{AskedByte};
-ghost use Rattle.calls.specs.declared.Asked as declared;
+ghost use Rattle.refusals.specs.declared.Refusal as refused;
+ghost use Rattle.answers.specs.declared.Answer as declared;
 ghost use Rattle.transcripts.specs.Lines.{place_line};
 ghost use Rattle.recover.specs.Gathered.{answer_in, Said};
 
 use crate::output;
-use recovery::{Asked, Recovery};
+use answers::Answer;
+use recovery::Recovery;
+use refusals::Refusal;
 use serials::Serial;
 use std::io::{self, Stdout};
 
 // What asking says of a place, by its byte in the list.
-fn answer_of(byte: u8) -> Asked
+fn answer_of(byte: u8) -> Result<Answer, Refusal>
     ensures { result ≡ answer_in byte }
 {
     if byte == 0 {
-        return Asked::NotLast;
+        return Ok(Answer::NotLast);
     }
     if byte == 1 {
-        return Asked::Last;
+        return Ok(Answer::Last);
     }
-    Asked::Open
+    Ok(Answer::Open)
 }
 
 // The line of a place: whatever answer its byte in the list is of, the line says that.
@@ -35,7 +38,7 @@ fn list_place(
     requires used_in_bounds { used ≤ length out.old }
     requires in_bounds { 64 ≤ length out.old }
     requires p_bound { p < 128 }
-    ensures ok { IfOk result (λ end. (a : declared.Asked) → AskedByte a (get_or listed.now p 0) → Said (place_line (get_or serials.now p 0) a) used out.old out.new end) }
+    ensures ok { IfOk result (λ end. (a : Result declared.Answer refused.Refusal) → AskedByte a (get_or listed.now p 0) → Said (place_line (get_or serials.now p 0) a) used out.old out.new end) }
     ensures err { OnErr result (out.new ≡ out.old) }
 {
     let serial = Serial(serials[p]);
@@ -50,14 +53,12 @@ fn list_places(to: Stdout, out: &mut [u8], used: usize, r: Recovery) -> io::Resu
     ensures { IfOk result (λ end. end ≤ length out.old) }
 {
     let mut listed = [0u8; 128];
-    recovery::list(r, &mut listed);
+    let _ = recovery::list(r, &mut listed);
     let serials = r.serials;
     let count = standings::size(r.count);
     let mut end = used;
-    let mut p = 0;
-    while p < count {
+    for p in 0..count {
         end = list_place(to, out, end, &serials, &listed, p)?;
-        p += 1;
     }
     Ok(end)
 }

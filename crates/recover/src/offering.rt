@@ -1,14 +1,14 @@
 // The records of the input, one after another: the first opens a recovery, and each is offered to it.
-ghost use Rattle.std.specs.Prelude.{◌≡◌, [], ◌≤◌, length, drop, IfOk};
+ghost use Rattle.std.specs.Prelude.{◌≡◌, [], ◌≤◌, length, drop, Ok, IfOk};
 ghost use Rattle.serials.specs.Seconds.{itself};
-ghost use Rattle.layouts.specs.declared.Reading.TheVariants as reading;
 ghost use Rattle.layouts.specs.Records.{reading, serials};
 ghost use Rattle.calls.specs.Promises.{fresh};
 
 use crate::{output, window};
 use answers::Reply;
-use records::{Reading, Record};
+use records::Record;
 use recovery::Recovery;
+use refusals::Refusal;
 use std::io::{self, Stdin, Stdout};
 
 // What the input leaves: its recovery, of no places where none was opened, and how much of the output is gathered.
@@ -29,7 +29,7 @@ fn unopened() -> Recovery
 
 // The recovery that the record at a position opens, with its roster.
 fn opened_by(bytes: &[u8], at: usize, x: Record) -> Recovery
-    requires { reading itself bytes.now at ≡ reading.Read x }
+    requires { reading itself bytes.now at ≡ Ok x }
     ensures { result ≡ fresh (serials x.count (drop x.roster bytes.now)) }
 {
     let mut list = [0u32; 128];
@@ -54,29 +54,13 @@ fn read_next<'a>(
     serials: &'a [u32],
     count: usize,
     order: &'a [u8; 128],
-) -> Reading
+) -> Result<Record, Refusal>
     ensures { result ≡ reading itself bytes.now at }
 {
     if serials.len() < count {
         return records::read(bytes, at, &serials[..0], &serials[..0]);
     }
     records::read_like(bytes, at, &serials[..count], &serials[..0], order)
-}
-
-// The fault of a record that cannot be read, 0 where it can.
-fn fault_of(got: Reading) -> u8 {
-    match got {
-        Reading::Read(_) => 0,
-        Reading::Refused(fault) => fault,
-    }
-}
-
-fn is_taken(answer: Reply) -> bool {
-    match answer {
-        Reply::Taken => true,
-        Reply::Repeated => false,
-        Reply::Refused(_) => false,
-    }
 }
 
 // Reads record after record to the end of the input, or to the first that cannot be read, and says the reply to each.
@@ -94,15 +78,13 @@ pub(crate) fn offer_all(
     let mut order = [0u8; 128];
     let mut w = window::start();
     let mut used = 0;
-    let mut number = 0u64;
-    while number < u64::MAX {
+    for number in 1..=u64::MAX {
         w = window::ready(from, input, w)?;
         let at = w.at;
         let have = w.have;
         if at == have {
             break;
         }
-        number += 1;
         let got = read_next(
             &input[..have],
             at,
@@ -110,10 +92,12 @@ pub(crate) fn offer_all(
             recovery.count,
             &order,
         );
-        let Reading::Read(x) = got else {
-            let reply = Reply::Refused(fault_of(got));
-            used = output::say_record(to, out, used, number, reply)?;
-            break;
+        let x = match got {
+            Ok(x) => x,
+            Err(refusal) => {
+                used = output::say_record(to, out, used, number, Err(refusal))?;
+                break;
+            }
         };
         // one that cannot be read ends the reading, so the first that can is record 1
         if number == 1 {
@@ -133,7 +117,7 @@ pub(crate) fn offer_all(
         );
         used = output::say_record(to, out, used, number, answer)?;
         // a recovery changes hands only where it changes
-        if is_taken(answer) {
+        if let Ok(Reply::Taken) = answer {
             let offered = recovery::offer_read(recovery, &input[..have], x);
             recovery = offered.recovery;
         }

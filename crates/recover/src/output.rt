@@ -3,9 +3,8 @@ ghost use Rattle.std.specs.Prelude.{◌≡◌, ◌⊎◌, ◌+◌, ◌≤◌, le
 ghost use Rattle.transcripts.specs.Lines.{record_line, place_line, whole_line, none_line};
 ghost use Rattle.recover.specs.Gathered.{end_of, Said};
 
-use answers::Reply;
-use records::Writing;
-use recovery::Asked;
+use answers::{Answer, Reply};
+use refusals::Refusal;
 use serials::Serial;
 use std::io::{self, Stdout};
 
@@ -31,12 +30,12 @@ fn room(to: Stdout, out: &[u8], used: usize) -> io::Result<usize>
 }
 
 // Where a line that was laid ends.
-fn end_of(laid: Writing) -> usize
+fn end_of(laid: Result<usize, Refusal>) -> usize
     ensures { result ≡ end_of laid }
 {
     match laid {
-        Writing::Next(end) => end,
-        Writing::Refused(_) => 0,
+        Ok(end) => end,
+        Err(_) => 0,
     }
 }
 
@@ -45,7 +44,7 @@ pub(crate) fn say_record(
     out: &mut [u8],
     used: usize,
     number: u64,
-    answer: Reply,
+    answer: Result<Reply, Refusal>,
 ) -> io::Result<usize>
     requires used_in_bounds { used ≤ length out.old }
     requires in_bounds { 64 ≤ length out.old }
@@ -61,7 +60,7 @@ pub(crate) fn say_place(
     out: &mut [u8],
     used: usize,
     serial: Serial,
-    answer: Asked,
+    answer: Result<Answer, Refusal>,
 ) -> io::Result<usize>
     requires used_in_bounds { used ≤ length out.old }
     requires in_bounds { 64 ≤ length out.old }

@@ -1,5 +1,5 @@
 // The input, seen through a window: a lent buffer whose bytes from `at` up to `have` were read and not passed yet.
-ghost use Rattle.std.specs.Prelude.{◌≡◌, false, ◌+◌, ◌≤◌, length, take, drop, IfOk, OnErr};
+ghost use Rattle.std.specs.Prelude.{◌≡◌, false, ◌≤◌, length, IfOk, OnErr};
 ghost use Rattle.recover.specs.Windows.{ahead, Inside, Enough, StartsWith};
 
 use std::io::{self, Read, Stdin};
@@ -34,23 +34,11 @@ pub fn past(w: Window, next: usize) -> Window
     }
 }
 
-// The bytes from a position on go to the front.
-fn to_front(buf: &mut [u8], at: usize, count: usize)
-    requires { at + count ≤ length buf.old }
-    ensures { take count buf.new ≡ take count (drop at buf.old) }
-{
-    let mut i = 0;
-    while i < count {
-        let byte = buf[at + i];
-        buf[i] = byte;
-        i += 1;
-    }
-}
-
 // Reads until the buffer is full or the input has ended, and says how many bytes came.
 fn read_full(from: Stdin, buf: &mut [u8]) -> io::Result<usize>
     ensures { IfOk result (λ n. n ≤ length buf.new) }
 {
+    // `read_exact` fails where the input ends early, and tells no count
     let mut input = from;
     let mut done = 0;
     while done < buf.len() {
@@ -74,7 +62,7 @@ fn refill(from: Stdin, buf: &mut [u8], w: Window) -> io::Result<Window>
 {
     let at = w.at;
     let left = w.have - at;
-    to_front(buf, at, left);
+    buf.copy_within(at..w.have, 0);
     let more = read_full(from, &mut buf[left..])?;
     let end = left + more;
     Ok(Window {

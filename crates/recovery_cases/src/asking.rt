@@ -23,21 +23,16 @@ fn find_one(to: Stdout, r: Recovery, x: u32) -> io::Result<()> {
 fn find(to: Stdout, r: Recovery, wide: bool, words: &[u8]) -> io::Result<()> {
     let said = scripts::numbers(scripts::section(words, 0));
     say::text(to, b" ->")?;
-    for k in 0usize..300 {
-        if said.count <= k {
-            return Ok(());
-        }
-        find_one(to, r, scripts::serial(scripts::number(said, k), wide))?;
+    for x in said.of.iter().take(said.count) {
+        find_one(to, r, scripts::serial(*x, wide))?;
     }
     Ok(())
 }
 
 // The answer for each place of the roster.
 fn places(to: Stdout, r: Recovery) -> io::Result<()> {
-    let mut p = 0;
-    while p < r.count {
+    for p in 0..r.count {
         outcomes::say_letter(to, outcomes::asked(recovery::ask(r, Place(p))))?;
-        p += 1;
     }
     Ok(())
 }

@@ -98,13 +98,8 @@ fn give(to: Stdout, start: Stage, words: &[u8]) -> io::Result<Stage> {
     let place = scripts::number(said, 0) as usize;
     let mut s = start;
     say::text(to, b" ->")?;
-    for k in 1usize..300 {
-        if said.count <= k {
-            return Ok(s);
-        }
-        let at = std::num::wrapping_add_usize(place, k - 1);
-        let next = give_one(to, s, at, scripts::number(said, k))?;
-        s = next;
+    for (i, x) in said.of.iter().take(said.count).skip(1).enumerate() {
+        s = give_one(to, s, place.wrapping_add(i), *x)?;
     }
     Ok(s)
 }

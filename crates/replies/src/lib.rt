@@ -6,29 +6,15 @@ ghost use Rattle.sets.specs.Sets as sets;
 ghost use Rattle.sets.specs.PlaceSets.{has};
 ghost use Rattle.answers.specs.Views.{size, accepted_in};
 ghost use Rattle.answers.specs.declared.Reply.TheVariants as reply;
+ghost use Rattle.refusals.specs.declared.Refusal.TheVariants as refused;
 ghost use Rattle.answers.specs.Replies.{same_kind, entering, judgement};
 
 use answers::Reply;
 use histories::Kind;
 use layouts::Record;
+use refusals::Refusal;
 use rows::Rows;
 use sets::{Place, PlaceSet};
-
-// Whether two kinds are the same.
-fn same_kind(a: Kind, b: Kind) -> bool
-    ensures { result ≡ same_kind a b }
-{
-    match a {
-        Kind::Full => match b {
-            Kind::Full => true,
-            Kind::Short => false,
-        },
-        Kind::Short => match b {
-            Kind::Full => false,
-            Kind::Short => true,
-        },
-    }
-}
 
 // Of one that is back: the same kind and mourned set again, or 10.
 fn again(
@@ -39,21 +25,21 @@ fn again(
     count: usize,
     own: Place,
     mourned: PlaceSet,
-) -> Reply
+) -> Result<Reply, Refusal>
     requires { (accepted_in count (has returned) (has full) rows.now).returned own.0 ≡ true }
-    ensures { result ≡ cond (same_kind kind ((accepted_in count (has returned) (has full) rows.now).kind own.0) && sets.same (size count) (has mourned) ((accepted_in count (has returned) (has full) rows.now).row own.0)) reply.Repeated (reply.Refused 10) }
+    ensures { result ≡ cond (same_kind kind ((accepted_in count (has returned) (has full) rows.now).kind own.0) && sets.same (size count) (has mourned) ((accepted_in count (has returned) (has full) rows.now).row own.0)) (Ok reply.Repeated) (Err refused.OtherRecord) }
 {
     let first = standings::kind_of(full, own);
-    if !same_kind(kind, first) {
-        return Reply::Refused(10);
+    if kind != first {
+        return Err(Refusal::OtherRecord);
     }
     let all = places::below(count);
     let row = standings::recorded(rows, returned, count, own);
     let named = places::intersection(all, mourned);
     if places::same(named, row) {
-        return Reply::Repeated;
+        return Ok(Reply::Repeated);
     }
-    Reply::Refused(10)
+    Err(Refusal::OtherRecord)
 }
 
 // A record of the group: repeated or 10, 11, or taken.
@@ -65,7 +51,7 @@ fn enter(
     count: usize,
     own: Place,
     mourned: PlaceSet,
-) -> Reply
+) -> Result<Reply, Refusal>
     ensures { result ≡ entering count (has returned) (has full) rows.now own.0 kind (has mourned) }
 {
     let all = places::below(count);
@@ -74,9 +60,9 @@ fn enter(
         return again(kind, rows, returned, full, count, own, mourned);
     }
     if acceptance::accepts(kind, rows, returned, full, count, own, mourned) {
-        return Reply::Taken;
+        return Ok(Reply::Taken);
     }
-    Reply::Refused(11)
+    Err(Refusal::NoHistory)
 }
 
 // What a record that was read from some bytes meets in a group, judged without a copy of the recovery: 9, or as a record of it.
@@ -88,14 +74,14 @@ pub fn judge<'a>(
     rows: &'a Rows,
     bytes: &[u8],
     x: Record,
-) -> Reply
+) -> Result<Reply, Refusal>
     ensures { result ≡ judgement count serials.now (has returned) (has full) rows.now bytes.now x }
 {
     let n = groups::roster_length(count, serials);
     let at = x.roster;
     let m = x.count;
     if !roster_bytes::roster_is(bytes, at, m, &serials[..n]) {
-        return Reply::Refused(9);
+        return Err(Refusal::OtherGroup);
     }
     let kind = x.kind;
     let own = x.own;

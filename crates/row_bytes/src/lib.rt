@@ -12,14 +12,7 @@ fn put_word(out: &mut [u8], x: u64)
     requires { 8 ≤ length out.old }
     ensures { out.new ≡ bytes_from 8 0 (bit x) ++ drop 8 out.old }
 {
-    out[0] = (x % 256) as u8;
-    out[1] = ((x >> 8) % 256) as u8;
-    out[2] = ((x >> 16) % 256) as u8;
-    out[3] = ((x >> 24) % 256) as u8;
-    out[4] = ((x >> 32) % 256) as u8;
-    out[5] = ((x >> 40) % 256) as u8;
-    out[6] = ((x >> 48) % 256) as u8;
-    out[7] = ((x >> 56) % 256) as u8;
+    out[..8].copy_from_slice(&x.to_le_bytes());
 }
 
 // Lays a row's 16 bytes into a buffer from a position on, where they fit.
@@ -37,22 +30,14 @@ pub fn put(out: &mut [u8], at: usize, s: PlaceSet)
     put_word(&mut out[half..], s.high);
 }
 
-// A byte as a wider number.
-fn wide(b: u8) -> u64
-    ensures { (result ≡ b) × (result < 256) }
-{
-    b as u64
-}
-
 // The word whose 8 bytes, lowest first, stand at the front.
 fn read_word(bytes: &[u8]) -> u64
     requires { 8 ≤ length bytes.now }
     ensures { (k : ℕ) → k < 64 → bit result k ≡ bit (get_or bytes.now (k / 8) 0) (k % 8) }
 {
-    let from_six = wide(bytes[7]) * 256 + wide(bytes[6]);
-    let from_four = (from_six * 256 + wide(bytes[5])) * 256 + wide(bytes[4]);
-    let from_two = (from_four * 256 + wide(bytes[3])) * 256 + wide(bytes[2]);
-    (from_two * 256 + wide(bytes[1])) * 256 + wide(bytes[0])
+    u64::from_le_bytes([
+        bytes[0], bytes[1], bytes[2], bytes[3], bytes[4], bytes[5], bytes[6], bytes[7],
+    ])
 }
 
 // The row of a place among rows of 16 bytes each: empty where its bytes are not all there.

@@ -50,14 +50,8 @@ pub fn up_to(text: &[u8], from: usize, x: u8) -> usize
     if text.len() < from {
         return 0;
     }
-    let mut i = from;
-    while i < text.len() {
-        if text[i] == x {
-            return i - from;
-        }
-        i += 1;
-    }
-    i - from
+    let rest = &text[from..];
+    rest.iter().position(|c| *c == x).unwrap_or(rest.len())
 }
 
 // Section k of a line, apart by colons; what follows a number sign is a remark.
@@ -67,29 +61,18 @@ pub fn section(line: &[u8], k: usize) -> &[u8] {
     if k == 0 {
         return part(said, 0, first);
     }
-    let rest = part(said, std::num::wrapping_add_usize(first, 1), said.len());
+    let rest = part(said, first.wrapping_add(1), said.len());
     let second = up_to(rest, 0, b':');
     if k == 1 {
         return part(rest, 0, second);
     }
-    part(rest, std::num::wrapping_add_usize(second, 1), rest.len())
-}
-
-fn is_digit(c: u8) -> bool {
-    47 < c && c < 58
-}
-
-fn ten_times(x: u64) -> u64 {
-    let two = std::num::wrapping_add_u64(x, x);
-    let four = std::num::wrapping_add_u64(two, two);
-    let eight = std::num::wrapping_add_u64(four, four);
-    std::num::wrapping_add_u64(eight, two)
+    part(rest, second.wrapping_add(1), rest.len())
 }
 
 // The scan after one more byte.
 fn scanned(s: Scan, c: u8) -> Scan {
-    if is_digit(c) {
-        let value = std::num::wrapping_add_u64(ten_times(s.value), (c % 16) as u64);
+    if c.is_ascii_digit() {
+        let value = s.value.wrapping_mul(10).wrapping_add((c % 16) as u64);
         return Scan {
             value,
             some: true,
@@ -139,19 +122,18 @@ fn with_range(list: List, first: u64, last: u64) -> List {
         if last < first {
             return next;
         }
-        let x = std::num::wrapping_add_u64(first, k);
+        let x = first.wrapping_add(k);
         if last < x {
             return next;
         }
-        let longer = with(next, x);
-        next = longer;
+        next = with(next, x);
     }
     next
 }
 
 // The list with the number that ends before this byte, if one does.
 fn ended(list: List, s: Scan, c: u8) -> List {
-    if is_digit(c) || c == b'.' || !s.some {
+    if c.is_ascii_digit() || c == b'.' || !s.some {
         return list;
     }
     if s.ranged {
@@ -167,13 +149,9 @@ pub fn numbers(text: &[u8]) -> List {
         of: [0; 300],
     };
     let mut s = unread();
-    let mut i = 0;
-    while i < text.len() {
-        let longer = ended(list, s, text[i]);
-        let next = scanned(s, text[i]);
-        list = longer;
-        s = next;
-        i += 1;
+    for c in text {
+        list = ended(list, s, *c);
+        s = scanned(s, *c);
     }
     ended(list, s, b' ')
 }
@@ -202,10 +180,8 @@ pub fn serial(x: u64, wide: bool) -> u32 {
 // The numbers of a text as serials, and how many they are.
 pub fn serials(text: &[u8], wide: bool, out: &mut [u32; 300]) -> usize {
     let list = numbers(text);
-    let mut i = 0;
-    while i < 300 {
-        out[i] = serial(list.of[i], wide);
-        i += 1;
+    for (to, x) in out.iter_mut().zip(&list.of) {
+        *to = serial(*x, wide);
     }
     list.count
 }
@@ -284,14 +260,11 @@ fn store(out: &mut [u8; 1100], at: usize, x: u8) {
 pub fn bytes(text: &[u8], out: &mut [u8; 1100]) -> usize {
     let mut n = 0;
     let mut high = 16;
-    let mut i = up_to(text, 0, b' ');
-    while i < text.len() {
-        let v = digit(text[i]);
+    for c in behind(text, up_to(text, 0, b' ')) {
+        let v = digit(*c);
         store(out, n, pair(high, v));
-        let one = made(high, v);
-        n += one;
+        n += made(high, v);
         high = after(high, v);
-        i += 1;
     }
     n
 }
@@ -301,14 +274,9 @@ fn run(list: &[u8], from: usize) -> usize
     requires { from < length list.now }
     ensures { (1 ≤ result) × (result ≤ length list.now - from) }
 {
-    let mut i = from + 1;
-    while i < list.len() {
-        if list[i] != list[from] {
-            return i - from;
-        }
-        i += 1;
-    }
-    i - from
+    let first = list[from];
+    let rest = &list[from + 1..];
+    1 + rest.iter().take_while(|x| **x == first).count()
 }
 
 // A byte in hexadecimal, and how often it stands where that is more than once.

@@ -16,10 +16,10 @@ use Rattle.sets.proofs.Booleans.{is_true, is_false}
 use Rattle.sets.proofs.Laws.{found_at, found_none}
 use Rattle.sets.specs.PlaceSets.{found}
 use Rattle.sets.specs.declared.Place.{Place}
-use Rattle.sets.specs.declared.Found.{Found}
-use Rattle.sets.specs.declared.Found.TheVariants.{At, Nothing}
-use Rattle.serials.specs.declared.Listed.{Listed}
-use Rattle.serials.specs.declared.Listed.TheVariants.{Sound, Refused}
+use Rattle.std.specs.Prelude.{Option, Some, None, is_some, Result, Ok, Err}
+use Rattle.refusals.specs.declared.Refusal.{Refusal}
+use Rattle.refusals.specs.declared.Refusal.TheVariants as R
+use Rattle.refusals.specs.Numbers.{number}
 use Rattle.serials.specs.Rosters.{place_of, holds, place_from, first_repeat, first_fault, IsRoster, listed}
 
 -- ---- a serial's place
@@ -199,12 +199,12 @@ module _ (x : ℕ) (s : List ℕ) (b w n : ℕ) where
 -- ---- the first fault, by the first serial
 
 module _ (seen : List ℕ) (x : ℕ) (t : List ℕ) where
-  pub fault_zero : x ≡ 0 → first_fault seen (x ∷ t) ≡ 4
+  pub fault_zero : x ≡ 0 → first_fault seen (x ∷ t) ≡ Err R.ZeroSerial
   unfolding first_fault
   fault_zero z = rw (eq-eqb x 0 z)
 
   module _ (z : x ≡ 0 → ⊥) where
-    pub fault_twice : holds x seen ≡ true → first_fault seen (x ∷ t) ≡ 5
+    pub fault_twice : holds x seen ≡ true → first_fault seen (x ∷ t) ≡ Err R.Twice
     unfolding first_fault
     fault_twice e = rw (ne_eqb x 0 z, e)
 
@@ -212,7 +212,7 @@ module _ (seen : List ℕ) (x : ℕ) (t : List ℕ) where
     unfolding first_fault
     fault_new e = rw (ne_eqb x 0 z, e)
 
-pub fault_nil : (seen : List ℕ) → first_fault seen [] ≡ 0
+pub fault_nil : (seen : List ℕ) → first_fault seen [] ≡ Ok tt
 unfolding first_fault
 fault_nil seen = refl
 
@@ -250,11 +250,11 @@ module _ (s : List ℕ) (i : ℕ) (l : i < length s) where
         rw (walk_holds, ne_eqb (get_or s i 0) x e, walk_miss e, n)
 
   -- the first fault from i on
-  pub walk_zero : get_or s i 0 ≡ 0 → first_fault (take i s) (drop i s) ≡ 4
+  pub walk_zero : get_or s i 0 ≡ 0 → first_fault (take i s) (drop i s) ≡ Err R.ZeroSerial
   walk_zero z = rw ahead (fault_zero (take i s) (get_or s i 0) (drop (i + 1) s) z)
 
   module _ (z : get_or s i 0 ≡ 0 → ⊥) where
-    pub walk_twice : holds (get_or s i 0) (take i s) ≡ true → first_fault (take i s) (drop i s) ≡ 5
+    pub walk_twice : holds (get_or s i 0) (take i s) ≡ true → first_fault (take i s) (drop i s) ≡ Err R.Twice
     walk_twice e = rw ahead (fault_twice (take i s) (get_or s i 0) (drop (i + 1) s) z e)
 
     pub walk_new : holds (get_or s i 0) (take i s) ≡ false → first_fault (take i s) (drop i s) ≡ first_fault (take (i + 1) s) (drop (i + 1) s)
@@ -265,7 +265,7 @@ pub from_past : (s : List ℕ) (i x : ℕ) → length s ≤ i → place_from i x
 unfolding place_from
 from_past s i x l = rw (drop_of_length-le s l, holds_nil x)
 
-pub fault_done : (s : List ℕ) (i : ℕ) → length s ≤ i → first_fault (take i s) (drop i s) ≡ 0
+pub fault_done : (s : List ℕ) (i : ℕ) → length s ≤ i → first_fault (take i s) (drop i s) ≡ Ok tt
 fault_done s i l = rw (drop_of_length-le s l) (fault_nil (take i s))
 
 -- ---- the first repeat
@@ -317,25 +317,34 @@ judged seen x = go (eqb x 0) (holds x seen) refl refl
     go false true e f = again (eqb-false x 0 e) f
     go false false e f = new (eqb-false x 0 e) f
 
+-- the number of a refusal, 0 for none
+abbrev fault : Result (Unit {0}) Refusal → ℕ
+fault (Ok u) = 0
+fault (Err j) = number j
+
+-- answers with different numbers are not the same
+differ : {A : Type 0} (a b : Result (Unit {0}) Refusal) → a ≡ b → (fault a ≡ fault b → ⊥) → A
+differ a b e n = absurd (n (ap fault e))
+
 -- no fault: no zero, and no repeat
-pub fault_none : (seen s : List ℕ) → first_fault seen s ≡ 0 → (holds 0 s ≡ false) × (first_repeat seen s ≡ length s)
+pub fault_none : (seen s : List ℕ) → first_fault seen s ≡ Ok tt → (holds 0 s ≡ false) × (first_repeat seen s ≡ length s)
 unfolding first_repeat
 fault_none seen [] h = (holds_nil 0, refl)
 fault_none seen (x ∷ s) h = go (fault_none (seen ++ (x ∷ [])) s) (judged seen x)
   where
-    go : (first_fault (seen ++ (x ∷ [])) s ≡ 0 → (holds 0 s ≡ false) × (first_repeat (seen ++ (x ∷ [])) s ≡ length s)) → Judged seen x
+    go : (first_fault (seen ++ (x ∷ [])) s ≡ Ok tt → (holds 0 s ≡ false) × (first_repeat (seen ++ (x ∷ [])) s ≡ length s)) → Judged seen x
         → (holds 0 (x ∷ s) ≡ false) × (first_repeat seen (x ∷ s) ≡ length (x ∷ s))
-    go rest (zeroth z) = absurd (omega (arith, fault_zero seen x s z))
-    go rest (again z e) = absurd (omega (arith, fault_twice seen x s z e))
+    go rest (zeroth z) = differ (Err R.ZeroSerial) (Ok tt) (sym (fault_zero seen x s z) ∙ h) (omega arith)
+    go rest (again z e) = differ (Err R.Twice) (Ok tt) (sym (fault_twice seen x s z e) ∙ h) (omega arith)
     go rest (new z e) = let w = rest (sym (fault_new seen x s z e) ∙ h) in (holds_first 0 x s ∙ rw (ne_eqb x 0 z) w.0, rw e (ap suc w.1))
 
 -- a fault where there is no zero is a repeat
-pub fault_some : (seen s : List ℕ) → (first_fault seen s ≡ 0 → ⊥) → holds 0 s ≡ false → first_repeat seen s < length s
+pub fault_some : (seen s : List ℕ) → (first_fault seen s ≡ Ok tt → ⊥) → holds 0 s ≡ false → first_repeat seen s < length s
 unfolding first_repeat
 fault_some seen [] h n = absurd (h (fault_nil seen))
 fault_some seen (x ∷ s) h n = go (fault_some (seen ++ (x ∷ [])) s) (judged seen x)
   where
-    go : ((first_fault (seen ++ (x ∷ [])) s ≡ 0 → ⊥) → holds 0 s ≡ false → first_repeat (seen ++ (x ∷ [])) s < length s) → Judged seen x → first_repeat seen (x ∷ s) < suc (length s)
+    go : ((first_fault (seen ++ (x ∷ [])) s ≡ Ok tt → ⊥) → holds 0 s ≡ false → first_repeat (seen ++ (x ∷ [])) s < length s) → Judged seen x → first_repeat seen (x ∷ s) < suc (length s)
     go rest (zeroth z) = absurd (holds_nowhere 0 (x ∷ s) n 0 (omega arith) z)
     go rest (again z e) = rw e (omega arith)
     go rest (new z e) =
@@ -379,23 +388,37 @@ repeat_none s h = go (ltb (first_repeat [] s) (length s)) refl
 
 -- ---- a place found, and none
 
-pub found_here : (n p q : ℕ) → p ≡ q → q < n → At (record { 0 = q }) ≡ found n p
+pub found_here : (n p q : ℕ) → p ≡ q → q < n → Some (record { 0 = q }) ≡ found n p
 unfolding found
 found_here n p q e l = rw (e, lt-ltb q n l)
 
-pub found_nowhere : (n p : ℕ) → n ≤ p → Nothing ≡ found n p
+pub found_nowhere : (n p : ℕ) → n ≤ p → None ≡ found n p
 unfolding found
 found_nowhere n p l = rw (le-ltb p n l)
 
 -- whether `find` found it says whether the serial stands there
-module _ (x : ℕ) (s : List ℕ) (f : Found) (e : f ≡ found (length s) (place_of x s)) where
-  pub found_holds : (q : Place) → f ≡ At q → holds x s ≡ true
+module _ (x : ℕ) (s : List ℕ) (f : Option Place) (e : f ≡ found (length s) (place_of x s)) where
+  pub found_holds : (q : Place) → f ≡ Some q → holds x s ≡ true
   found_holds q a =
       let w = found_at (length s) (place_of x s) q (sym e ∙ a) in
       below_holds x s (omega (arith, w))
 
-  pub found_lacks : f ≡ Nothing → holds x s ≡ false
+  pub found_lacks : f ≡ None → holds x s ≡ false
   found_lacks a = past_holds x s (found_none (length s) (place_of x s) (sym e ∙ a))
+
+  pub is_some_holds : is_some f ≡ true → holds x s ≡ true
+  is_some_holds t = go f refl t
+    where
+      go : (g : Option Place) → f ≡ g → is_some g ≡ true → holds x s ≡ true
+      go (Some q) a t = found_holds q a
+      go None a t = cc
+
+  pub not_some_lacks : is_some f ≡ false → holds x s ≡ false
+  not_some_lacks t = go f refl t
+    where
+      go : (g : Option Place) → f ≡ g → is_some g ≡ false → holds x s ≡ false
+      go (Some q) a t = cc
+      go None a t = found_lacks a
 
 -- ---- the refusal that a list meets
 
@@ -426,36 +449,36 @@ twice_repeat s w = go (ltb (first_repeat [] s) (length s)) refl
         absurd (different s e w.0 w.1 w.2 w.3 w.4)
 
 -- one law for each case, as the code meets it
-pub listed_few : (s : List ℕ) → length s < 1 → listed s ≡ Refused 3
+pub listed_few : (s : List ℕ) → length s < 1 → listed s ≡ Err R.BadCount
 unfolding listed
 listed_few s l = rw (lt-leb 1 (length s) l)
 
-pub listed_many : (s : List ℕ) → 128 < length s → listed s ≡ Refused 3
+pub listed_many : (s : List ℕ) → 128 < length s → listed s ≡ Err R.BadCount
 unfolding listed
 listed_many s l =
     let f : 1 ≤ length s = omega arith in
     rw (le-leb 1 (length s) f, lt-leb (length s) 128 l)
 
 module _ (s : List ℕ) (l : Sized s) where
-  pub listed_zero : holds 0 s ≡ true → listed s ≡ Refused 4
+  pub listed_zero : holds 0 s ≡ true → listed s ≡ Err R.ZeroSerial
   unfolding listed
   listed_zero e = rw (le-leb 1 (length s) l.0, le-leb (length s) 128 l.1, e)
 
   module _ (z : holds 0 s ≡ false) where
-    pub listed_twice : first_repeat [] s < length s → listed s ≡ Refused 5
+    pub listed_twice : first_repeat [] s < length s → listed s ≡ Err R.Twice
     unfolding listed
     listed_twice e = rw (le-leb 1 (length s) l.0, le-leb (length s) 128 l.1, z, lt-ltb (first_repeat [] s) (length s) e)
 
-    pub listed_roster : length s ≤ first_repeat [] s → listed s ≡ Sound
+    pub listed_roster : length s ≤ first_repeat [] s → listed s ≡ Ok tt
     unfolding listed
     listed_roster e = rw (le-leb 1 (length s) l.0, le-leb (length s) 128 l.1, z, le-ltb (first_repeat [] s) (length s) e)
 
 -- every list is one of the four
 data Case (s : List ℕ) : Type 0 where
-  wrong_size : listed s ≡ Refused 3 → (length s ≡ 0) ⊎ (128 < length s) → Case s
-  zeroed : listed s ≡ Refused 4 → Sized s → HasZero s → Case s
-  twice : listed s ≡ Refused 5 → Sized s → (HasZero s → ⊥) → HasTwice s → Case s
-  roster : listed s ≡ Sound → IsRoster s → Case s
+  wrong_size : listed s ≡ Err R.BadCount → (length s ≡ 0) ⊎ (128 < length s) → Case s
+  zeroed : listed s ≡ Err R.ZeroSerial → Sized s → HasZero s → Case s
+  twice : listed s ≡ Err R.Twice → Sized s → (HasZero s → ⊥) → HasTwice s → Case s
+  roster : listed s ≡ Ok tt → IsRoster s → Case s
 
 no_zero : (s : List ℕ) → holds 0 s ≡ false → HasZero s → ⊥
 no_zero s z w = holds_nowhere 0 s z w.0 w.1 w.2
@@ -481,66 +504,57 @@ case s = size (leb 1 (length s)) (leb (length s) 128) refl refl
     size true false t u = wrong_size (listed_many s (leb-false _ _ u)) (inr (leb-false _ _ u))
     size true true t u = zero_there (leb-true _ _ t, leb-true _ _ u) (holds 0 s) refl
 
--- the number of a refusal
-fault : Listed → ℕ
-fault Sound = 0
-fault (Refused j) = j
-
 -- two answers that differ are not both met
-never : {A : Type 0} (s : List ℕ) (a b : Listed) → listed s ≡ a → listed s ≡ b → (fault a ≡ fault b → ⊥) → A
-never s a b p q n = absurd (n (ap fault (sym p ∙ q)))
+never : {A : Type 0} (s : List ℕ) (a b : Result (Unit {0}) Refusal) → listed s ≡ a → listed s ≡ b → (fault a ≡ fault b → ⊥) → A
+never s a b p q n = differ a b (sym p ∙ q) n
 
 module _ (s : List ℕ) where
-  sound_to : Case s → listed s ≡ Sound → IsRoster s
-  unfolding fault
-  sound_to (wrong_size e w) h = never s (Refused 3) Sound e h (omega arith)
-  sound_to (zeroed e l w) h = never s (Refused 4) Sound e h (omega arith)
-  sound_to (twice e l z w) h = never s (Refused 5) Sound e h (omega arith)
+  sound_to : Case s → listed s ≡ Ok tt → IsRoster s
+  sound_to (wrong_size e w) h = never s (Err R.BadCount) (Ok tt) e h (omega arith)
+  sound_to (zeroed e l w) h = never s (Err R.ZeroSerial) (Ok tt) e h (omega arith)
+  sound_to (twice e l z w) h = never s (Err R.Twice) (Ok tt) e h (omega arith)
   sound_to (roster e r) h = r
 
-  sound_of : IsRoster s → listed s ≡ Sound
+  sound_of : IsRoster s → listed s ≡ Ok tt
   sound_of r =
       listed_roster s (r.some, r.few) (nowhere_holds 0 s r.no_zero) (omega (arith, repeat_none s r.no_repeat))
 
   -- a list is taken exactly where it is a roster
-  pub listed_sound : (listed s ≡ Sound) ↔ IsRoster s
+  pub listed_sound : (listed s ≡ Ok tt) ↔ IsRoster s
   listed_sound = (sound_to (case s), sound_of)
 
-  three_to : Case s → listed s ≡ Refused 3 → (length s ≡ 0) ⊎ (128 < length s)
-  unfolding fault
+  three_to : Case s → listed s ≡ Err R.BadCount → (length s ≡ 0) ⊎ (128 < length s)
   three_to (wrong_size e w) h = w
-  three_to (zeroed e l w) h = never s (Refused 4) (Refused 3) e h (omega arith)
-  three_to (twice e l z w) h = never s (Refused 5) (Refused 3) e h (omega arith)
-  three_to (roster e r) h = never s Sound (Refused 3) e h (omega arith)
+  three_to (zeroed e l w) h = never s (Err R.ZeroSerial) (Err R.BadCount) e h (omega arith)
+  three_to (twice e l z w) h = never s (Err R.Twice) (Err R.BadCount) e h (omega arith)
+  three_to (roster e r) h = never s (Ok tt) (Err R.BadCount) e h (omega arith)
 
-  three_of : (length s ≡ 0) ⊎ (128 < length s) → listed s ≡ Refused 3
+  three_of : (length s ≡ 0) ⊎ (128 < length s) → listed s ≡ Err R.BadCount
   three_of (inl e) = listed_few s (omega arith)
   three_of (inr l) = listed_many s l
 
   -- 3: no serial, or more than 128
-  pub listed_3 : (listed s ≡ Refused 3) ↔ ((length s ≡ 0) ⊎ (128 < length s))
+  pub listed_3 : (listed s ≡ Err R.BadCount) ↔ ((length s ≡ 0) ⊎ (128 < length s))
   listed_3 = (three_to (case s), three_of)
 
-  four_to : Case s → listed s ≡ Refused 4 → Sized s × HasZero s
-  unfolding fault
-  four_to (wrong_size e w) h = never s (Refused 3) (Refused 4) e h (omega arith)
+  four_to : Case s → listed s ≡ Err R.ZeroSerial → Sized s × HasZero s
+  four_to (wrong_size e w) h = never s (Err R.BadCount) (Err R.ZeroSerial) e h (omega arith)
   four_to (zeroed e l w) h = (l, w)
-  four_to (twice e l z w) h = never s (Refused 5) (Refused 4) e h (omega arith)
-  four_to (roster e r) h = never s Sound (Refused 4) e h (omega arith)
+  four_to (twice e l z w) h = never s (Err R.Twice) (Err R.ZeroSerial) e h (omega arith)
+  four_to (roster e r) h = never s (Ok tt) (Err R.ZeroSerial) e h (omega arith)
 
   -- 4: the size is right, and some serial is 0
-  pub listed_4 : (listed s ≡ Refused 4) ↔ (Sized s × HasZero s)
+  pub listed_4 : (listed s ≡ Err R.ZeroSerial) ↔ (Sized s × HasZero s)
   listed_4 = (four_to (case s), λ w. listed_zero s w.0 (where_holds 0 s w.1.0 w.1.1 w.1.2))
 
-  five_to : Case s → listed s ≡ Refused 5 → Sized s × (HasZero s → ⊥) × HasTwice s
-  unfolding fault
-  five_to (wrong_size e w) h = never s (Refused 3) (Refused 5) e h (omega arith)
-  five_to (zeroed e l w) h = never s (Refused 4) (Refused 5) e h (omega arith)
+  five_to : Case s → listed s ≡ Err R.Twice → Sized s × (HasZero s → ⊥) × HasTwice s
+  five_to (wrong_size e w) h = never s (Err R.BadCount) (Err R.Twice) e h (omega arith)
+  five_to (zeroed e l w) h = never s (Err R.ZeroSerial) (Err R.Twice) e h (omega arith)
   five_to (twice e l z w) h = (l, z, w)
-  five_to (roster e r) h = never s Sound (Refused 5) e h (omega arith)
+  five_to (roster e r) h = never s (Ok tt) (Err R.Twice) e h (omega arith)
 
   -- 5: the size is right, no serial is 0, and two are alike
-  pub listed_5 : (listed s ≡ Refused 5) ↔ (Sized s × (HasZero s → ⊥) × HasTwice s)
+  pub listed_5 : (listed s ≡ Err R.Twice) ↔ (Sized s × (HasZero s → ⊥) × HasTwice s)
   listed_5 =
       (five_to (case s), λ w. listed_twice s w.0 (nowhere_holds 0 s (λ p l e. w.1 (p, l, e))) (twice_repeat s w.2))
 

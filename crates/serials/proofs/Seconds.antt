@@ -11,8 +11,7 @@ use lib.Seq.{get_or-drop}
 use borrow.Author.Tests.{eq-eqb, ne_eqb}
 use Rattle.sets.specs.PlaceSets.{found}
 use Rattle.sets.specs.declared.Place.{Place}
-use Rattle.sets.specs.declared.Found.{Found}
-use Rattle.sets.specs.declared.Found.TheVariants.{At, Nothing}
+use Rattle.std.specs.Prelude.{Option, Some, None, Result, Ok, Err}
 use Rattle.sets.proofs.Booleans.{clash}
 use Rattle.sets.proofs.Laws.{found_at, found_none}
 use Rattle.serials.specs.Rosters.{place_of, holds, place_from}
@@ -41,7 +40,7 @@ module _ (firsts seconds : List ℕ) (x : ℕ) where
   counts_second z e = counts true (ap (λ (b : Bool). b && not (eqb x 0)) e ∙ ap not (ne_eqb x 0 z))
 
   -- as the code looks: the place of a second serial, which the first ones may not have
-  module _ (z : ¬ (x ≡ 0)) (f : Found) (is : f ≡ found (length seconds) (place_of x seconds)) (q : Place) (a : f ≡ At q) where
+  module _ (z : ¬ (x ≡ 0)) (f : Option Place) (is : f ≡ found (length seconds) (place_of x seconds)) (q : Place) (a : f ≡ Some q) where
     pub counts_there : counts_as firsts seconds x ≡ get_or firsts q.0 0
     counts_there =
         let w = found_at (length seconds) (place_of x seconds) q (sym is ∙ a) in
@@ -111,39 +110,39 @@ module _ (s : List ℕ) (from x : ℕ) where
 -- ---- where it is found
 
 module _ (alias : ℕ → ℕ) (from : ℕ) (roster : List ℕ) (x : ℕ) where
-  pub find_first : holds x roster ≡ true → finding_from alias from roster x ≡ F.First (record { 0 = place_from from x roster })
+  pub find_first : holds x roster ≡ true → finding_from alias from roster x ≡ Some (F.First (record { 0 = place_from from x roster }))
   unfolding finding_from
   find_first e = rw e
 
   module _ (e : holds x roster ≡ false) where
-    pub find_second : holds (alias x) roster ≡ true → finding_from alias from roster x ≡ F.Second (record { 0 = place_from from (alias x) roster })
+    pub find_second : holds (alias x) roster ≡ true → finding_from alias from roster x ≡ Some (F.Second (record { 0 = place_from from (alias x) roster }))
     unfolding finding_from
     find_second d = rw (e, d)
 
-    pub find_nothing : holds (alias x) roster ≡ false → finding_from alias from roster x ≡ F.Nothing
+    pub find_nothing : holds (alias x) roster ≡ false → finding_from alias from roster x ≡ None
     unfolding finding_from
     find_nothing d = rw (e, d)
 
   -- as the code looks: for the serial itself, and then for what it counts as
-  module _ (f : Found) (is : f ≡ found (length roster) (place_from from x roster)) where
-    pub look_first : (q : Place) → f ≡ At q → F.First q ≡ finding_from alias from roster x
+  module _ (f : Option Place) (is : f ≡ found (length roster) (place_from from x roster)) where
+    pub look_first : (q : Place) → f ≡ Some q → Some (F.First q) ≡ finding_from alias from roster x
     look_first q a =
         let w = found_at (length roster) (place_from from x roster) q (sym is ∙ a) in
         let p : place_from from x roster ≡ q.0 = w.0 in
         sym (find_first (from_below roster from x (omega (arith, w))) ∙ rw p)
 
-    module _ (none : f ≡ Nothing) (y : ℕ) (counts : y ≡ alias x) (g : Found) (at : g ≡ found (length roster) (place_from from y roster)) where
+    module _ (none : f ≡ None) (y : ℕ) (counts : y ≡ alias x) (g : Option Place) (at : g ≡ found (length roster) (place_from from y roster)) where
       lacks : holds x roster ≡ false
       lacks = from_nowhere roster from x (found_none (length roster) (place_from from x roster) (sym is ∙ none))
 
-      pub look_second : (q : Place) → g ≡ At q → F.Second q ≡ finding_from alias from roster x
+      pub look_second : (q : Place) → g ≡ Some q → Some (F.Second q) ≡ finding_from alias from roster x
       look_second q a =
           let w = found_at (length roster) (place_from from y roster) q (sym at ∙ a) in
           let p : place_from from y roster ≡ q.0 = w.0 in
           let h : holds y roster ≡ true = from_below roster from y (omega (arith, w)) in
           sym (find_second lacks (rw (sym counts) h) ∙ rw (sym counts, p))
 
-      pub look_nothing : g ≡ Nothing → F.Nothing ≡ finding_from alias from roster x
+      pub look_nothing : g ≡ None → None ≡ finding_from alias from roster x
       look_nothing a =
           let h : holds y roster ≡ false = from_nowhere roster from y (found_none (length roster) (place_from from y roster) (sym at ∙ a)) in
           sym (find_nothing lacks (rw (sym counts) h))
@@ -153,10 +152,10 @@ module _ (alias : ℕ → ℕ) (from : ℕ) (roster : List ℕ) (x : ℕ) where
   unfolding place_in
   found_stands = go (holds x roster) refl (holds (alias x) roster) refl
     where
-      on : (y : ℕ) → holds y roster ≡ true → At (record { 0 = place_from from y roster }) ≡ found (length roster) (place_from from y roster)
+      on : (y : ℕ) → holds y roster ≡ true → Some (record { 0 = place_from from y roster }) ≡ found (length roster) (place_from from y roster)
       on y e = found_here (length roster) (place_from from y roster) (place_from from y roster) refl (from_on roster from y e)
 
-      off : (y : ℕ) → holds y roster ≡ false → Nothing ≡ found (length roster) (place_from from y roster)
+      off : (y : ℕ) → holds y roster ≡ false → None ≡ found (length roster) (place_from from y roster)
       off y e = found_nowhere (length roster) (place_from from y roster) (from_off roster from y e)
 
       moved : (y : ℕ) → stands_for alias roster x ≡ y → found (length roster) (place_from from y roster) ≡ found (length roster) (place_from from (stands_for alias roster x) roster)
@@ -168,7 +167,7 @@ module _ (alias : ℕ → ℕ) (from : ℕ) (roster : List ℕ) (x : ℕ) where
       go false e true h = ap place_in (find_second e h) ∙ on (alias x) h ∙ moved (alias x) (stands_other alias roster x e)
       go false e false h = ap place_in (find_nothing e h) ∙ off (alias x) h ∙ moved (alias x) (stands_other alias roster x e)
 
-  pub located : (f : Finding) → f ≡ finding_from alias from roster x → (g : Found) → place_in f ≡ g → g ≡ found (length roster) (place_from from (stands_for alias roster x) roster)
+  pub located : (f : Option Finding) → f ≡ finding_from alias from roster x → (g : Option Place) → place_in f ≡ g → g ≡ found (length roster) (place_from from (stands_for alias roster x) roster)
   located f e g i = sym i ∙ ap place_in e ∙ found_stands
 
 -- from the first place on
@@ -183,19 +182,19 @@ from_start s x = go (holds x (drop 0 s))
 pub finding_start : (alias : ℕ → ℕ) (roster : List ℕ) (x : ℕ) → finding_from alias 0 roster x ≡ finding alias roster x
 unfolding finding_from finding
 finding_start alias roster x =
-    ap₂ (λ (p q : ℕ). cond (holds x roster) (F.First (record { 0 = p })) (cond (holds (alias x) roster) (F.Second (record { 0 = q })) F.Nothing))
+    ap₂ (λ (p q : ℕ). cond {A = Option Finding} (holds x roster) (Some (F.First (record { 0 = p }))) (cond {A = Option Finding} (holds (alias x) roster) (Some (F.Second (record { 0 = q }))) None))
     (from_start roster x) (from_start roster (alias x))
 
 module _ (alias : ℕ → ℕ) (roster : List ℕ) (x : ℕ) where
-  pub found_first : holds x roster ≡ true → finding alias roster x ≡ F.First (record { 0 = place_of x roster })
+  pub found_first : holds x roster ≡ true → finding alias roster x ≡ Some (F.First (record { 0 = place_of x roster }))
   unfolding finding
   found_first e = rw e
 
   module _ (e : holds x roster ≡ false) where
-    pub found_second : holds (alias x) roster ≡ true → finding alias roster x ≡ F.Second (record { 0 = place_of (alias x) roster })
+    pub found_second : holds (alias x) roster ≡ true → finding alias roster x ≡ Some (F.Second (record { 0 = place_of (alias x) roster }))
     unfolding finding
     found_second d = rw (e, d)
 
-    pub found_nothing : holds (alias x) roster ≡ false → finding alias roster x ≡ F.Nothing
+    pub found_nothing : holds (alias x) roster ≡ false → finding alias roster x ≡ None
     unfolding finding
     found_nothing d = rw (e, d)

@@ -1,11 +1,10 @@
 -- Second serials: document 02, [2]. They stand beside a group's roster as a list, place by place, with 0 where a place has none.
 -- Assumes nothing.
-use Rattle.std.specs.Prelude.{Bool, cond, not, ◌&&◌, List, ℕ, get_or, eqb}
+use Rattle.std.specs.Prelude.{Bool, cond, Option, Some, None, not, ◌&&◌, List, ℕ, get_or, eqb}
 use Rattle.serials.specs.Rosters.{place_of, holds, place_from}
 use Rattle.serials.specs.declared.Finding.{Finding}
-use Rattle.serials.specs.declared.Finding.TheVariants.{First, Second, Nothing}
-use Rattle.sets.specs.declared.Found as places
-use Rattle.sets.specs.declared.Found.TheVariants as found
+use Rattle.serials.specs.declared.Finding.TheVariants.{First, Second}
+use Rattle.sets.specs.declared.Place.{Place}
 
 -- x is the second serial of some place: 0 is nobody's
 unfoldable pub is_second : List ℕ → ℕ → Bool
@@ -24,19 +23,19 @@ unfoldable pub stands_for : (ℕ → ℕ) → List ℕ → ℕ → ℕ
 stands_for alias roster x = cond (holds x roster) x (alias x)
 
 -- where x is found on a roster, and as which of its place's two serials
-unfoldable pub finding : (ℕ → ℕ) → List ℕ → ℕ → Finding
+unfoldable pub finding : (ℕ → ℕ) → List ℕ → ℕ → Option Finding
 finding alias roster x =
-    cond (holds x roster) (First (record { 0 = place_of x roster }))
-    (cond (holds (alias x) roster) (Second (record { 0 = place_of (alias x) roster })) Nothing)
+    cond (holds x roster) (Some (First (record { 0 = place_of x roster })))
+    (cond (holds (alias x) roster) (Some (Second (record { 0 = place_of (alias x) roster }))) None)
 
 -- the same, looking from a place on first
-unfoldable pub finding_from : (ℕ → ℕ) → ℕ → List ℕ → ℕ → Finding
+unfoldable pub finding_from : (ℕ → ℕ) → ℕ → List ℕ → ℕ → Option Finding
 finding_from alias from roster x =
-    cond (holds x roster) (First (record { 0 = place_from from x roster }))
-    (cond (holds (alias x) roster) (Second (record { 0 = place_from from (alias x) roster })) Nothing)
+    cond (holds x roster) (Some (First (record { 0 = place_from from x roster })))
+    (cond (holds (alias x) roster) (Some (Second (record { 0 = place_from from (alias x) roster }))) None)
 
 -- the place that was found, whichever of its two serials it was
-unfoldable pub place_in : Finding → places.Found
-place_in (First p) = found.At p
-place_in (Second p) = found.At p
-place_in Nothing = found.Nothing
+unfoldable pub place_in : Option Finding → Option Place
+place_in (Some (First p)) = Some p
+place_in (Some (Second p)) = Some p
+place_in None = None

@@ -5,20 +5,12 @@
 use sets::Place;
 
 // A controller's serial: document 01's 32-bit number, never 0 on a roster. It is no place, and a place is no serial.
-#[derive(Clone, Copy)]
+#[derive(Clone, Copy, Debug, PartialEq, Eq)]
 pub struct Serial(pub u32);
 
-// Whether a list of serials can be a roster, or which refusal it meets.
-#[derive(Clone, Copy)]
-pub enum Listed {
-    Sound,
-    Refused(u8),
-}
-
 // Where a serial is found on a roster, as the first or as the second serial of a place.
-#[derive(Clone, Copy)]
+#[derive(Clone, Copy, Debug, PartialEq, Eq)]
 pub enum Finding {
     First(Place),
     Second(Place),
-    Nothing,
 }

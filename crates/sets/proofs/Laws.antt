@@ -1,5 +1,5 @@
 -- What is known of every set: its members are below 128, they determine it, and `packed` makes the set of given members.
--- With `Booleans`, `Tests` and `Counting` this is all that a crate above cites. Assumes nothing.
+-- With `Booleans`, `Tests`, `Counting` and `Members` this is all that a crate above cites. Assumes nothing.
 use mathlib.Core.Path.{◌≡◌, refl, sym, ap, ◌∙◌, fun_ext}
 use mathlib.Core.Bool.{Bool, true, false, not, cond, ◌&&◌, ◌||◌, and-true}
 use Prim.Native.Nat.{ℕ, suc, ◌≤◌, ◌<◌}
@@ -10,8 +10,7 @@ use Rattle.sets.specs.Sets.{Places, only, union, with, without, difference, noth
 use Rattle.sets.specs.PlaceSets.{has, kept, Words, packed, found}
 use Rattle.sets.specs.declared.PlaceSet.{PlaceSet}
 use Rattle.sets.specs.declared.Place.{Place}
-use Rattle.sets.specs.declared.Found.{Found}
-use Rattle.sets.specs.declared.Found.TheVariants.{At, Nothing}
+use Rattle.std.specs.Prelude.{Option, Some, None, Result, Ok, Err}
 use Rattle.sets.proofs.Booleans.{clash, is_false, is_true, minus_elim, minus_intro}
 use Rattle.sets.proofs.Tests.{any_elim, any_none, subset_elim, subset_intro, lowest_member, lowest_least}
 use Rattle.sets.proofs.Counting.{count_same, count_nothing, count_without}
@@ -93,40 +92,43 @@ has_packed = words.has_packed
 pub packed_is : (s : PlaceSet) (S : Places) → Words s → has s ≡ kept S → s ≡ packed S
 packed_is s S w e = has_ext s (packed S) w (packed_words S) (e ∙ sym (has_packed S))
 
-place_of : Found → ℕ
-place_of (At p) = p.0
-place_of Nothing = 0
+place_of : Option Place → ℕ
+place_of (Some p) = p.0
+place_of None = 0
 
 -- what `found` says of a place
-pub found_at : (n p : ℕ) (q : Place) → found n p ≡ At q → (p ≡ q.0) × (q.0 < n)
+pub found_at : (n p : ℕ) (q : Place) → found n p ≡ Some q → (p ≡ q.0) × (q.0 < n)
 unfolding found place_of
 found_at n p q e = go (ltb p n) refl e
   where
-    go : (b : Bool) → ltb p n ≡ b → cond b (At (record { 0 = p })) Nothing ≡ At q → (p ≡ q.0) × (q.0 < n)
+    go : (b : Bool) → ltb p n ≡ b → cond {A = Option Place} b (Some (record { 0 = p })) None ≡ Some q → (p ≡ q.0) × (q.0 < n)
     go true t h =
         let s : p ≡ q.0 = ap place_of h in
         (s, rw (← s) (ltb-true p n t))
     go false t h = let z : ◌≡◌ {A = ℕ} 0 1 = cc in absurd (omega arith)
 
-pub found_none : (n p : ℕ) → found n p ≡ Nothing → n ≤ p
+pub found_none : (n p : ℕ) → found n p ≡ None → n ≤ p
 unfolding found
 found_none n p e = go (ltb p n) refl e
   where
-    go : (b : Bool) → ltb p n ≡ b → cond b (At (record { 0 = p })) Nothing ≡ Nothing → n ≤ p
+    go : (b : Bool) → ltb p n ≡ b → cond {A = Option Place} b (Some (record { 0 = p })) None ≡ None → n ≤ p
     go true t h = let z : ◌≡◌ {A = ℕ} 0 1 = cc in absurd (omega arith)
     go false t h = ltb-false p n t
 
 -- the lowest member, by what was found: a member with none below it; or there is none
-pub lowest_found : (n : ℕ) (S : Places) (p : Place) → found n (lowest n S) ≡ At p → (S p.0 ≡ true) × (p.0 < n) × ((j : ℕ) → j < p.0 → S j ≡ false)
+pub lowest_found : (n : ℕ) (S : Places) (p : Place) → found n (lowest n S) ≡ Some p → (S p.0 ≡ true) × (p.0 < n) × ((j : ℕ) → j < p.0 → S j ≡ false)
 lowest_found n S p e =
     let h = found_at n (lowest n S) p e in
     let l : lowest n S < n = rw h.0 h.1 in
     (rw h.0 at (lowest_member n S l), h.1, λ j less. lowest_least n S j (rw h.0 less))
 
-pub lowest_nothing : (n : ℕ) (S : Places) → found n (lowest n S) ≡ Nothing → (k : ℕ) → k < n → S k ≡ false
+pub lowest_nothing : (n : ℕ) (S : Places) → found n (lowest n S) ≡ None → (k : ℕ) → k < n → S k ≡ false
 lowest_nothing n S e k l =
     let h : n ≤ lowest n S = found_none n (lowest n S) e in
     lowest_least n S k (omega arith)
+
+pub nothing_found : (s : PlaceSet) → found 128 (lowest 128 (has s)) ≡ None → (k : ℕ) → has s k ≡ false
+nothing_found s e k = is_false (has s k) (λ h. clash h (lowest_nothing 128 (has s) e k (has_below s k h)))
 
 -- one member less, by the set that `without` gives
 pub without_count : (s r : PlaceSet) (p : ℕ) → has s p ≡ true → has r ≡ without p (has s) → count 128 (has s) ≡ suc (count 128 (has r))

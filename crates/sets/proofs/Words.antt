@@ -1,5 +1,6 @@
 -- `has` by the two words: what the proofs of this crate's functions cite. Whoever uses a set cites `Laws`, and no word. Assumes nothing.
 use mathlib.Core.Path.{◌≡◌, refl, sym, ap, ap₂, ◌∙◌, subst, fun_ext}
+use Rattle.std.specs.Prelude.{Some, None}
 use mathlib.Core.Bool.{Bool, true, false, not, cond, ◌&&◌, ◌||◌, and-true, and-false}
 use Prim.Native.Nat.{ℕ, ◌+◌, ◌-◌, ◌*◌, ◌%◌, ◌^◌, ◌≤◌, ◌<◌}
 use native.Mathlib.Omega.{arith}
@@ -11,7 +12,6 @@ use lib.Bits.{bit_and, bit_or, bit_xor}
 use Rattle.sets.specs.Sets.{Places, nothing, only, below, union, intersection, difference, any, same, count, lowest}
 use Rattle.sets.specs.PlaceSets.{bit, has, kept, Words, packed, found}
 use Rattle.sets.specs.declared.PlaceSet.{PlaceSet}
-use Rattle.sets.specs.declared.Found.TheVariants.{At, Nothing}
 use Rattle.sets.proofs.Booleans.{clash, is_false, both_ways}
 use Rattle.sets.proofs.Tests.{any_intro, none_any, same_elim, same_intro, lowest_is, lowest_none}
 use Rattle.sets.proofs.Counting.{count_same, count_add}
@@ -215,17 +215,17 @@ below_high n r h e =
 
 -- ---- the lowest member
 
-pub found_at : (n p q : ℕ) → p ≡ q → q < n → At (record { 0 = q }) ≡ found n p
+pub found_at : (n p q : ℕ) → p ≡ q → q < n → Some (record { 0 = q }) ≡ found n p
 unfolding found
 found_at n p q e h = rw (e, lt-ltb q n h)
 
-pub found_none : (n : ℕ) → Nothing ≡ found n n
+pub found_none : (n : ℕ) → None ≡ found n n
 unfolding found
 found_none n =
     let l : n ≤ n = omega arith in
     rw (le-ltb n n l)
 
-pub lowest_low : (s : PlaceSet) → Words s → (s.low ≡ 0 → ⊥) → At (record { 0 = count_trailing_zeros 64 s.low }) ≡ found 128 (lowest 128 (has s))
+pub lowest_low : (s : PlaceSet) → Words s → (s.low ≡ 0 → ⊥) → Some (record { 0 = count_trailing_zeros 64 s.low }) ≡ found 128 (lowest 128 (has s))
 lowest_low s w h =
     let t : ℕ = count_trailing_zeros 64 s.low in
     let r = trailing_at 64 s.low (omega arith) w.0 in
@@ -233,7 +233,7 @@ lowest_low s w h =
     (lowest_is 128 (has s) t (omega (arith, r.0)) (has_low s t r.0 ∙ r.1) (λ j l. has_low s j (omega (arith, r.0)) ∙ trailing_below 64 s.low j l))
     (omega (arith, r.0))
 
-pub lowest_high : (s : PlaceSet) → Words s → s.low ≡ 0 → (s.high ≡ 0 → ⊥) → At (record { 0 = 64 + count_trailing_zeros 64 s.high }) ≡ found 128 (lowest 128 (has s))
+pub lowest_high : (s : PlaceSet) → Words s → s.low ≡ 0 → (s.high ≡ 0 → ⊥) → Some (record { 0 = 64 + count_trailing_zeros 64 s.high }) ≡ found 128 (lowest 128 (has s))
 lowest_high s w p h =
     let t : ℕ = count_trailing_zeros 64 s.high in
     let r = trailing_at 64 s.high (omega arith) w.1 in
@@ -245,7 +245,7 @@ lowest_high s w p h =
     (λ j l b. has_past s j l)))
     (omega (arith, r.0))
 
-pub lowest_neither : (s : PlaceSet) → s.low ≡ 0 → s.high ≡ 0 → Nothing ≡ found 128 (lowest 128 (has s))
+pub lowest_neither : (s : PlaceSet) → s.low ≡ 0 → s.high ≡ 0 → None ≡ found 128 (lowest 128 (has s))
 lowest_neither s p q =
     found_none 128 ∙ ap (found 128) (sym (lowest_none 128 (has s) (λ k l. ap (λ (S : Places). S k) (has_none s p q))))
 

@@ -1,10 +1,9 @@
 -- A set of places in two words: which places are its members. This is the one place that says which bit is which.
 -- Assumes nothing.
-use Rattle.std.specs.Prelude.{false, cond, ℕ, zero, suc, ◌+◌, ◌-◌, ◌*◌, ◌/◌, ◌%◌, ◌^◌, ◌<◌, eqb, ltb}
+use Rattle.std.specs.Prelude.{false, cond, Option, Some, None, ℕ, zero, suc, ◌+◌, ◌-◌, ◌*◌, ◌/◌, ◌%◌, ◌^◌, ◌<◌, eqb, ltb}
 use Rattle.sets.specs.Sets.{Places, below, intersection}
+use Rattle.sets.specs.declared.Place.{Place}
 use Rattle.sets.specs.declared.PlaceSet.{PlaceSet}
-use Rattle.sets.specs.declared.Found.{Found}
-use Rattle.sets.specs.declared.Found.TheVariants.{At, Nothing}
 
 -- the binary digit k of n is 1
 unfoldable pub bit : ℕ → Places
@@ -32,5 +31,5 @@ unfoldable pub packed : Places → PlaceSet
 packed S = record { low = word 64 S; high = word 64 (λ k. S (64 + k)) }
 
 -- the place p, if it is below n
-unfoldable pub found : ℕ → ℕ → Found
-found n p = cond (ltb p n) (At (record { 0 = p })) Nothing
+unfoldable pub found : ℕ → ℕ → Option Place
+found n p = cond (ltb p n) (Some (record { 0 = p })) None

@@ -3,19 +3,12 @@
 // A position in a roster, from 0 (document 01: a place).
 #![tactic(auto)]
 
-#[derive(Clone, Copy)]
+#[derive(Clone, Copy, Debug, PartialEq, Eq)]
 pub struct Place(pub usize);
 
 // A set of places, by value: the places 0 to 63 in `low`, 64 to 127 in `high`. A place of 128 or more is in no set.
-#[derive(Clone, Copy)]
+#[derive(Clone, Copy, Debug, PartialEq, Eq)]
 pub struct PlaceSet {
     pub low: u64,
     pub high: u64,
-}
-
-// A place, or that there is none.
-#[derive(Clone, Copy)]
-pub enum Found {
-    At(Place),
-    Nothing,
 }

@@ -1,4 +1,6 @@
 -- Showing, one law for each way in which the code returns. Assumes nothing.
+use Rattle.refusals.specs.declared.Refusal.{Refusal}
+use Rattle.refusals.specs.declared.Refusal.TheVariants as refusal
 use mathlib.Core.Path.{◌≡◌, refl, sym, ap, ap₂, ◌∙◌}
 use mathlib.Core.Bool.{Bool, true, false, not, cond, ◌&&◌}
 use mathlib.Core.Logic.{◌⊎◌, inl, inr}
@@ -12,8 +14,7 @@ use Rattle.sets.specs.Sets.{Places, with, any, lowest}
 use Rattle.sets.specs.PlaceSets.{has, kept, found}
 use Rattle.sets.specs.declared.Place.{Place}
 use Rattle.sets.specs.declared.PlaceSet.{PlaceSet}
-use Rattle.sets.specs.declared.Found.{Found}
-use Rattle.sets.specs.declared.Found.TheVariants.{At, Nothing}
+use Rattle.std.specs.Prelude.{Option, Some, None, Result, Ok, Err}
 use Rattle.sets.proofs.Booleans.{clash, and_left, or_cases}
 use Rattle.sets.proofs.Tests.{any_elim, any_intro, none_any, lowest_at_most, lowest_below, lowest_is}
 use Rattle.sets.proofs.Laws.{kept_all, lowest_found, lowest_nothing}
@@ -33,24 +34,24 @@ use Rattle.answers.proofs.ShowCases.{shown_off, shown_last, shown_not, shown_sho
 -- ---- what is laid
 
 -- the lowest blocker, as it is found among 128 places
-module _ (n : ℕ) (A : Accepted) (M F : Row) (i : ℕ) (few : n ≤ 128) (s : PlaceSet) (is : has s ≡ blockers_by n A M F i) (f : Found) (e : f ≡ found 128 (lowest 128 (has s))) where
+module _ (n : ℕ) (A : Accepted) (M F : Row) (i : ℕ) (few : n ≤ 128) (s : PlaceSet) (is : has s ≡ blockers_by n A M F i) (f : Option Place) (e : f ≡ found 128 (lowest 128 (has s))) where
   blocker_on : (p : ℕ) → has s p ≡ true → p < n
   unfolding blockers_by
   blocker_on p h = ltb-true p n (and_left (ltb p n) (not (eqb p i)) (and_left _ (not (A.returned p)) (and_left _ (not (ruled_out_by n A M F i p)) (sym (ap (λ (S : Row). S p) is) ∙ h))))
 
-  pub blocker_at : (b : Place) → f ≡ At b → b.0 ≡ lowest n (blockers_by n A M F i)
+  pub blocker_at : (b : Place) → f ≡ Some b → b.0 ≡ lowest n (blockers_by n A M F i)
   blocker_at b h =
       let w = lowest_found 128 (has s) b (sym e ∙ h) in
       sym (lowest_is n (has s) b.0 (blocker_on b.0 w.0) w.0 w.2) ∙ ap (lowest n) is
 
   -- one that is not mourned is open where there is a blocker, and last where there is none
-  pub blocker_open : (b : Place) → f ≡ At b → M i ≡ false → answer_by n A M F i ≡ is_open
+  pub blocker_open : (b : Place) → f ≡ Some b → M i ≡ false → answer_by n A M F i ≡ is_open
   unfolding answer_by answer_with
   blocker_open b h m =
       let w = lowest_found 128 (has s) b (sym e ∙ h) in
       rw (m, any_intro n (blockers_by n A M F i) b.0 (blocker_on b.0 w.0) (sym (ap (λ (S : Row). S b.0) is) ∙ w.0))
 
-  pub blocker_none : f ≡ Nothing → M i ≡ false → answer_by n A M F i ≡ is_last
+  pub blocker_none : f ≡ None → M i ≡ false → answer_by n A M F i ≡ is_last
   unfolding answer_by answer_with
   blocker_none h m = rw (m, none_any n (blockers_by n A M F i) (λ p l. sym (ap (λ (S : Row). S p) is) ∙ lowest_nothing 128 (has s) (sym e ∙ h) p (omega arith)))
 
@@ -105,39 +106,39 @@ module _ (count : ℕ) (R U : Places) (w : List ℕ) (M F : Row) (i : ℕ) where
 
   module _ (a b : List ℕ) where
     -- the answer and both buffers are those of showing
-    abbrev pub Gives : Showing → List ℕ → List ℕ → Type 0
+    abbrev pub Gives : Result Showing Refusal → List ℕ → List ℕ → Type 0
     Gives s a' b' = (s ≡ (shown_in n A M F H i a b).answer) × ((a' ≡ (shown_in n A M F H i a b).first) × (b' ≡ (shown_in n A M F H i a b).second))
 
-    gives : (s : Showing) (a' b' : List ℕ) → shown_in n A M F H i a b ≡ record { answer = s; first = a'; second = b' } → Gives s a' b'
+    gives : (s : Result Showing Refusal) (a' b' : List ℕ) → shown_in n A M F H i a b ≡ record { answer = s; first = a'; second = b' } → Gives s a' b'
     gives s a' b' e = (ap (λ (x : Shown). x.answer) (sym e), (ap (λ (x : Shown). x.first) (sym e), ap (λ (x : Shown). x.second) (sym e)))
 
-    pub show_12 : n ≤ i → Gives (S.Refused 12) a b
+    pub show_12 : n ≤ i → Gives (Err refusal.OffRoster) a b
     unfolding unshown
-    show_12 l = gives (S.Refused 12) a b (shown_off n A M F H i a b l)
+    show_12 l = gives (Err refusal.OffRoster) a b (shown_off n A M F H i a b l)
 
     module _ (l : i < n) where
-      pub show_last : answer_by n A M F i ≡ is_last → Gives S.Decided a b
+      pub show_last : answer_by n A M F i ≡ is_last → Gives (Ok S.Decided) a b
       unfolding unshown
-      show_last e = gives S.Decided a b (shown_last n A M F H i a b l e)
+      show_last e = gives (Ok S.Decided) a b (shown_last n A M F H i a b l e)
 
-      pub show_not_last : M i ≡ true → Gives S.Decided a b
+      pub show_not_last : M i ≡ true → Gives (Ok S.Decided) a b
       unfolding unshown answer_by answer_with
-      show_not_last e = gives S.Decided a b (shown_not n A M F H i a b l (rw e))
+      show_not_last e = gives (Ok S.Decided) a b (shown_not n A M F H i a b l (rw e))
 
       module _ (e : answer_by n A M F i ≡ is_open) where
-        pub show_13 : (length a < 16 * n) ⊎ (length b < 16 * n) → Gives (S.Refused 13) a b
+        pub show_13 : (length a < 16 * n) ⊎ (length b < 16 * n) → Gives (Err refusal.TooShort) a b
         unfolding unshown
-        show_13 s = gives (S.Refused 13) a b (shown_short n A M F H i a b l e s)
+        show_13 s = gives (Err refusal.TooShort) a b (shown_short n A M F H i a b l e s)
 
         pub show_both : (m : ℕ) → m ≡ n → 16 * m ≤ length a → 16 * m ≤ length b → (row : PlaceSet) (c : ℕ) (a' b₁ b' : List ℕ)
             → c ≡ lowest n (blockers_by n A M F i) → has row ≡ kept (with i (before n A i))
             → a' ≡ laid_in m H a → b₁ ≡ laid_in m H b → b' ≡ put_row b₁ (16 * c) (has row)
-            → Gives S.Shown a' b'
+            → Gives (Ok S.Shown) a' b'
         unfolding replaced
         show_both m is u v row c a' b₁ b' q h f g g' =
             let few : m ≤ 128 = omega (arith, size_at_most count) in
             let on : lowest n (blockers_by n A M F i) < n = open_blocker n A M F i e in
-            let x = gives S.Shown _ _ (shown_both n A M F H i a b l e (rw (← is) u) (rw (← is) v)) in (
+            let x = gives (Ok S.Shown) _ _ (shown_both n A M F H i a b l e (rw (← is) u) (rw (← is) v)) in (
               x.0,
               (
                 f ∙ laid_in_lem m H a few u ∙ ap (λ (m : ℕ). laid m H a) is ∙ x.1.0,

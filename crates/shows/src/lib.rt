@@ -11,8 +11,9 @@ ghost use Rattle.answers.specs.Views.{size, accepted_in, recorded_in};
 ghost use Rattle.answers.specs.Shows.{laid_in, shown_in};
 
 use answers::Showing;
+use refusals::Refusal;
 use rows::Rows;
-use sets::{Found, Place, PlaceSet};
+use sets::{Place, PlaceSet};
 
 // What one that heard a place has in its row: the place, and all that is before it.
 fn heard_row(rows: &Rows, returned: PlaceSet, count: usize, place: Place) -> PlaceSet
@@ -57,7 +58,7 @@ fn show_open(
     blocker: Place,
     first: &mut [u8],
     second: &mut [u8],
-) -> Showing
+) -> Result<Showing, Refusal>
     requires place_bound { (place.0 < size count) × (keeping.answer_by (size count) (accepted_in count (has returned) (has full) rows.now) (has mourned) (has earlier) place.0 ≡ rule.is_open) }
     requires blocker_value { blocker.0 ≡ sets.lowest (size count) (keeping.blockers_by (size count) (accepted_in count (has returned) (has full) rows.now) (has mourned) (has earlier) place.0) }
     ensures value { result ≡ (shown_in (size count) (accepted_in count (has returned) (has full) rows.now) (has mourned) (has earlier) (rows_of rows.now) place.0 first.old second.old).answer }
@@ -66,15 +67,15 @@ fn show_open(
 {
     let n = standings::size(count);
     if first.len() < 16 * n {
-        return Showing::Refused(13);
+        return Err(Refusal::TooShort);
     }
     if second.len() < 16 * n {
-        return Showing::Refused(13);
+        return Err(Refusal::TooShort);
     }
     let heard = heard_row(rows, returned, count, place);
     lay_both(rows, n, first, second);
     row_bytes::put(second, 16 * blocker.0, heard);
-    Showing::Shown
+    Ok(Showing::Shown)
 }
 
 // Shows two histories that fit and differ on a place: 12, decided, 13, or both laid down.
@@ -88,21 +89,21 @@ pub fn show(
     place: Place,
     first: &mut [u8],
     second: &mut [u8],
-) -> Showing
+) -> Result<Showing, Refusal>
     ensures value { result ≡ (shown_in (size count) (accepted_in count (has returned) (has full) rows.now) (has mourned) (has earlier) (rows_of rows.now) place.0 first.old second.old).answer }
     ensures first_after { first.new ≡ (shown_in (size count) (accepted_in count (has returned) (has full) rows.now) (has mourned) (has earlier) (rows_of rows.now) place.0 first.old second.old).first }
     ensures second_after { second.new ≡ (shown_in (size count) (accepted_in count (has returned) (has full) rows.now) (has mourned) (has earlier) (rows_of rows.now) place.0 first.old second.old).second }
 {
     if standings::size(count) <= place.0 {
-        return Showing::Refused(12);
+        return Err(Refusal::OffRoster);
     }
     if places::contains(mourned, place) {
-        return Showing::Decided;
+        return Ok(Showing::Decided);
     }
     let blocking = blocking::blockers(rows, returned, full, mourned, earlier, count, place);
     let found = places::lowest(blocking);
-    let Found::At(blocker) = found else {
-        return Showing::Decided;
+    let Some(blocker) = found else {
+        return Ok(Showing::Decided);
     };
     show_open(
         rows, returned, full, mourned, earlier, count, place, blocker, first, second,

@@ -1,26 +1,29 @@
 -- Laws of bytes laid into a front, of where a line is put, of a number's digits, and of how long a line is. Assumes nothing.
+use Rattle.refusals.specs.Numbers.{number}
+use Rattle.refusals.specs.declared.Refusal.{Refusal}
+use Rattle.refusals.specs.declared.Refusal.TheVariants as R
+use Rattle.answers.specs.declared.Answer.TheVariants as A
+use Rattle.answers.specs.declared.Answer as declared
+use Rattle.std.specs.Prelude.{Option, Some, None, Result, Ok, Err}
 use mathlib.Core.Path.{◌≡◌, refl, sym, ap, ◌∙◌}
 use mathlib.Core.Bool.{Bool, true, false}
 use mathlib.Core.List.{List, [], ◌∷◌, ◌++◌, append_assoc, append-nil}
-use Prim.Native.Nat.{ℕ, zero, suc, ◌+◌, ◌-◌, ◌/◌, ◌%◌, ◌^◌, ◌≤◌, ◌<◌}
-use native.Mathlib.Nat.{pow-suc, sub-zero}
+use Prim.Native.Nat.{ℕ, zero, suc, ◌+◌, ◌-◌, ◌*◌, ◌/◌, ◌%◌, ◌^◌, ◌≤◌, ◌<◌, max}
+use native.Mathlib.Nat.{pow-suc, one-le-pow}
 use native.Mathlib.Numerals.{add-one}
 use native.Mathlib.Omega.{arith}
 use native.Mathlib.Decide.{dec_lt}
 use lib.Dec.{leb, ltb}
-use lib.ListN.{length, take, drop, get_or, set, length-append, length-drop, length-set, drop_of_length-le}
-use lib.Seq.{take_all, take-suc, drop-drop, drop-cons, drop-set-lt, get_or-set_same, length-take-le}
+use lib.ListN.{length, take, drop, set, length-append, length-drop, length-set, drop_of_length-le}
+use lib.Seq.{take_all, drop-drop, drop-cons, drop-set-lt, get_or-set_same}
 use borrow.Author.Tests.{ltb-true, lt-ltb, le-ltb, le-leb, lt-leb}
 use borrow.Rule.Slice.PartMut.{put_mid}
-use Rattle.layouts.specs.declared.Writing.TheVariants as W
 use Rattle.layouts.specs.Records.{unwritten, put_at, written_at}
-use Rattle.calls.specs.declared.Asked.{Asked}
-use Rattle.calls.specs.declared.Asked.TheVariants as A
 use Rattle.answers.specs.declared.Reply.{Reply}
 use Rattle.answers.specs.declared.Reply.TheVariants as O
 use Rattle.transcripts.specs.Lines.{ascii, digits, decimal, line, offer_words, record_line, answer_words, place_line, whole_line, none_line}
 use Rattle.layouts.specs.Fronts.{front}
-use Rattle.layouts.proofs.Fronts.{before_seam, front_byte, front_part}
+use Rattle.layouts.proofs.Fronts.{before_seam, front_part}
 
 -- ---- fronts
 
@@ -32,12 +35,6 @@ front_parted hs l m k n laid size all bs ys e =
     let whole : put_mid k n m ys ≡ front (hs ++ bs) l
     = ap (λ (z : ℕ). put_mid k z m ys) r ∙ front_part hs l m k laid size bs ys (e ∙ ap (λ (z : ℕ). front bs (take z (drop k m))) r) in
     before_seam (hs ++ bs) l (put_mid k n m ys) (k + length bs) whole (length-append hs bs ∙ ap (λ (z : ℕ). z + length bs) size)
-
--- a text byte by byte
-pub front_text : (text l m : List ℕ) (i : ℕ) → i < length text → length text ≤ length l → m ≡ front (take i text) l
-    → set m i (get_or text i 0) ≡ front (take (i + 1) text) l
-front_text text l m i h r e =
-    rw (add-one i, take-suc text i 0 h) (front_byte (take i text) l m i e (length-take-le i text (omega arith)) (get_or text i 0) (omega arith))
 
 -- ---- a line, and where it is put
 
@@ -54,13 +51,13 @@ length_numbered head number tail = simp (length_line, length-append) (omega arit
 
 module _ (bytes out : List ℕ) (at : ℕ) where
   -- no room
-  pub put_refused : length out < at + length bytes → (W.Refused 13 ≡ (written_at bytes out at).answer) × (out ≡ (written_at bytes out at).buffer)
+  pub put_refused : length out < at + length bytes → (Err R.TooShort ≡ (written_at bytes out at).answer) × (out ≡ (written_at bytes out at).buffer)
   unfolding written_at unwritten
   put_refused h = let e : leb (at + length bytes) (length out) ≡ false = lt-leb (at + length bytes) (length out) h in (rw e, rw e)
 
   -- the part from the position on was lent, and came back with the bytes in its front
   pub put_laid : (size : ℕ) → size ≡ length bytes → at + size ≤ length out → (ys : List ℕ) → ys ≡ front bytes (take (length out - at) (drop at out))
-      → (W.Next (at + size) ≡ (written_at bytes out at).answer) × (put_mid at (length out - at) out ys ≡ (written_at bytes out at).buffer)
+      → (Ok (at + size) ≡ (written_at bytes out at).answer) × (put_mid at (length out - at) out ys ≡ (written_at bytes out at).buffer)
   unfolding written_at put_at front
   put_laid size s h ys q =
       let e : leb (at + length bytes) (length out) ≡ true = le-leb (at + length bytes) (length out) (omega arith) in
@@ -132,10 +129,6 @@ length_large m n h = ap length (digits_large m n (le-ltb n 10 (omega arith))) �
 power_less : (k n : ℕ) → n < 10 ^ suc k → n / 10 < 10 ^ k
 power_less k n h = omega (arith, pow-suc 10 k)
 
-power_more : (k n : ℕ) → n < 10 ^ suc k → 9 < n → 0 < k
-power_more zero n h l = absurd (omega arith)
-power_more (suc k) n h l = omega arith
-
 digits_most : (m n : ℕ) → length (digits m n) ≤ m
 digits_most zero n = rw (digits_none n) (omega arith)
 digits_most (suc m) n = go (dec_lt n 10) (digits_most m (n / 10))
@@ -158,30 +151,18 @@ pub decimal_byte : (n : ℕ) → n < 256 → length (decimal n) ≤ 3
 unfolding decimal
 decimal_byte n h = digits_bound 20 2 n (omega arith)
 
--- ---- counting digits
-
--- what a loop that divides by 10 knows of the number of all digits
-abbrev pub Counted : ℕ → ℕ → ℕ → Type 0
-Counted all left count = (1 ≤ count) × (count ≤ 20) × (left < 10 ^ (21 - count)) × (all + 1 ≡ count + length (digits (21 - count) left))
-
-pub counted_none : (n : ℕ) → n < 2 ^ 64 → Counted (length (decimal n)) n 1
-unfolding decimal
-counted_none n h = (omega arith, omega arith, omega arith, omega arith)
-
-module _ (all left count : ℕ) (so_far : Counted all left count) where
-  pub counted_more : 9 < left → Counted all (left / 10) (count + 1)
-  counted_more h =
-      let e : 21 - count ≡ suc (20 - count) = omega arith in
-      let f : 21 - (count + 1) ≡ 20 - count = omega arith in
-      let b : left < 10 ^ suc (20 - count) = rw e at so_far.2 in
-      let l : all + 1 ≡ count + length (digits (suc (20 - count)) left) = rw e at so_far.3 in
-      (omega arith, omega (arith, power_more (20 - count) left b h), rw f (power_less (20 - count) left b), rw f (omega (arith, length_large (20 - count) left h)))
-
-  pub counted_all : left ≤ 9 → count ≡ all
-  counted_all h =
-      let e : 21 - count ≡ suc (20 - count) = omega arith in
-      let l : all + 1 ≡ count + length (digits (suc (20 - count)) left) = rw e at so_far.3 in
-      omega (arith, length_small (20 - count) left (omega arith))
+-- a number of at least 10 to the k, and below ten times that, has k + 1 digits; 0 has one, as 1 has
+pub digits_many : (m k n : ℕ) → k < m → 10 ^ k ≤ max n 1 → max n 1 < 10 * 10 ^ k → length (digits m n) ≡ k + 1
+digits_many zero k n h l u = absurd (omega arith)
+digits_many (suc m) k n h l u = go (dec_lt n 10) k h l u (λ j. digits_many m j (n / 10))
+  where
+    go : Dec (n < 10) → (k : ℕ) → k < suc m → 10 ^ k ≤ max n 1 → max n 1 < 10 * 10 ^ k
+        → ((j : ℕ) → j < m → 10 ^ j ≤ max (n / 10) 1 → max (n / 10) 1 < 10 * 10 ^ j → length (digits m (n / 10)) ≡ j + 1) → length (digits (suc m) n) ≡ k + 1
+    go (yes s) zero h l u earlier = length_small m n s
+    go (yes s) (suc k) h l u earlier = absurd (omega (arith, pow-suc 10 k, one-le-pow k 10 (omega arith)))
+    go (no s) zero h l u earlier = absurd (omega arith)
+    go (no s) (suc k) h l u earlier =
+        length_large m n (omega arith) ∙ omega (arith, earlier k (omega arith) (omega (arith, pow-suc 10 k)) (omega (arith, pow-suc 10 k)))
 
 -- ---- laying digits, the last first
 
@@ -189,42 +170,38 @@ module _ (all left count : ℕ) (so_far : Counted all left count) where
 abbrev pub Laying : List ℕ → List ℕ → ℕ → ℕ → Type 0
 Laying whole out left k = (length (digits k left) ≡ k) × (whole ≡ digits k left ++ drop k out)
 
-pub laying_none : (n : ℕ) (out : List ℕ) (count : ℕ) → count ≡ length (decimal n) → Laying (front (decimal n) out) out n (count - 0)
+pub laying_none : (n : ℕ) (out : List ℕ) (count : ℕ) → count ≡ length (decimal n) → Laying (front (decimal n) out) out n count
 unfolding decimal front
 laying_none n out count e =
-    rw (sub-zero count, e) (sym (ap length (digits_all 20 n)), ap (λ (z : List ℕ). z ++ drop (length (digits 20 n)) out) (digits_all 20 n))
+    rw e (sym (ap length (digits_all 20 n)), ap (λ (z : List ℕ). z ++ drop (length (digits 20 n)) out) (digits_all 20 n))
 
-module _ (whole out : List ℕ) (left count i : ℕ) (so_far : Laying whole out left (count - i)) where
-  pub laying_more : i < count → count ≤ length out → Laying whole (set out (count - 1 - i) (48 + left % 10)) (left / 10) (count - (i + 1))
-  laying_more h r =
-      let k = count - 1 - i in
-      let e : count - i ≡ suc (count - 1 - i) = omega arith in
-      let f : count - (i + 1) ≡ count - 1 - i = omega arith in
-      let exact : length (digits (suc k) left) ≡ suc k = rw e at so_far.0 in
-      let now : whole ≡ digits (suc k) left ++ drop (suc k) out = rw e at so_far.1 in
-      rw f ((digits_last k left exact).1, now ∙ digits_step k left out (omega arith) exact)
+pub laying_more : (whole out : List ℕ) (left k : ℕ) → Laying whole out left (k + 1) → k < length out → Laying whole (set out k (48 + left % 10)) (left / 10) k
+laying_more whole out left k so_far h =
+    let exact : length (digits (suc k) left) ≡ suc k = rw (add-one k) at so_far.0 in
+    let now : whole ≡ digits (suc k) left ++ drop (suc k) out = rw (add-one k) at so_far.1 in
+    ((digits_last k left exact).1, now ∙ digits_step k left out h exact)
 
-  pub laying_all : count ≤ i → out ≡ whole
-  laying_all h = let e : count - i ≡ 0 = omega arith in sym (so_far.1 ∙ rw (e, digits_none left))
+pub laying_all : (whole out : List ℕ) (left : ℕ) → Laying whole out left 0 → out ≡ whole
+laying_all whole out left so_far = sym (so_far.1 ∙ rw (digits_none left))
 
 -- ---- how long a line is
 
 -- the refusal that an answer holds
-unfoldable pub refusal_of : Reply → ℕ
-refusal_of O.Taken = 0
-refusal_of O.Repeated = 0
-refusal_of (O.Refused j) = j
+unfoldable pub refusal_of : Result Reply Refusal → ℕ
+refusal_of (Ok O.Taken) = 0
+refusal_of (Ok O.Repeated) = 0
+refusal_of (Err j) = number j
 
-unfoldable pub refusal_in : Asked → ℕ
-refusal_in A.Last = 0
-refusal_in A.NotLast = 0
-refusal_in A.Open = 0
-refusal_in (A.Refused j) = j
+unfoldable pub refusal_in : Result declared.Answer Refusal → ℕ
+refusal_in (Ok A.Last) = 0
+refusal_in (Ok A.NotLast) = 0
+refusal_in (Ok A.Open) = 0
+refusal_in (Err j) = number j
 
 -- the program's lines, where each refusal is a byte
 pub data IsLine : List ℕ → Type 0 where
-  record_line_lem : (n : ℕ) (o : Reply) → refusal_of o < 256 → IsLine (record_line n o)
-  place_line_lem : (n : ℕ) (a : Asked) → refusal_in a < 256 → IsLine (place_line n a)
+  record_line_lem : (n : ℕ) (o : Result Reply Refusal) → refusal_of o < 256 → IsLine (record_line n o)
+  place_line_lem : (n : ℕ) (a : Result declared.Answer Refusal) → refusal_in a < 256 → IsLine (place_line n a)
   whole_line_lem : (settled : Bool) → IsLine (whole_line settled)
   none_line_lem : IsLine none_line
 
@@ -232,18 +209,18 @@ pub length_decimal : (n : ℕ) → length (decimal n) ≤ 20
 unfolding decimal
 length_decimal n = digits_most 20 n
 
-length_offer : (o : Reply) → refusal_of o < 256 → length (offer_words o) ≤ 11
+length_offer : (o : Result Reply Refusal) → refusal_of o < 256 → length (offer_words o) ≤ 11
 unfolding offer_words refusal_of ascii
-length_offer O.Taken h = omega arith
-length_offer O.Repeated h = omega arith
-length_offer (O.Refused j) h = omega (arith, decimal_byte j h)
+length_offer (Ok O.Taken) h = omega arith
+length_offer (Ok O.Repeated) h = omega arith
+length_offer (Err j) h = omega (arith, decimal_byte (number j) h)
 
-length_answer : (a : Asked) → refusal_in a < 256 → length (answer_words a) ≤ 11
+length_answer : (a : Result declared.Answer Refusal) → refusal_in a < 256 → length (answer_words a) ≤ 11
 unfolding answer_words refusal_in ascii
-length_answer A.Last h = omega arith
-length_answer A.NotLast h = omega arith
-length_answer A.Open h = omega arith
-length_answer (A.Refused j) h = omega (arith, decimal_byte j h)
+length_answer (Ok A.Last) h = omega arith
+length_answer (Ok A.NotLast) h = omega arith
+length_answer (Ok A.Open) h = omega arith
+length_answer (Err j) h = omega (arith, decimal_byte (number j) h)
 
 -- every line is at most 40 bytes
 pub line_length : {s : List ℕ} → IsLine s → length s ≤ 40

@@ -12,12 +12,8 @@ fn expected(made: &[u8], at: usize, i: usize) -> u8 {
 
 // Whether a buffer has these bytes from a position on, and was not touched elsewhere.
 pub fn has_only(bytes: &[u8], at: usize, made: &[u8]) -> bool {
-    let mut i = 0;
-    while i < bytes.len() {
-        if bytes[i] != expected(made, at, i) {
-            return false;
-        }
-        i += 1;
-    }
-    true
+    bytes
+        .iter()
+        .enumerate()
+        .all(|(i, x)| *x == expected(made, at, i))
 }

@@ -10,7 +10,7 @@ ghost use Rattle.answers.specs.Views.{size, accepted_in, recorded_in, reach_from
 
 use answers::Walked;
 use rows::Rows;
-use sets::{Found, Place, PlaceSet};
+use sets::{Place, PlaceSet};
 
 // A set, without a place unless that stays.
 fn unless(stays: bool, s: PlaceSet, place: Place) -> PlaceSet
@@ -27,7 +27,7 @@ fn with_others(asked: PlaceSet, rest: PlaceSet) -> PlaceSet
     ensures { has result ≡ sets.intersection (has asked) (λ i. sets.any 128 (sets.without i (has rest))) }
 {
     let found = places::lowest(rest);
-    let Found::At(b) = found else {
+    let Some(b) = found else {
         return places::empty();
     };
     let others = places::without(rest, b);
@@ -96,14 +96,9 @@ fn free_among(
 ) -> PlaceSet
     ensures { has result ≡ sets.intersection (has asked) (λ p. sets.subset 128 (has rest) (rule.reach (size count) (recorded_in count (has returned) rows.now) p)) }
 {
-    let mut left = asked;
     let mut free = asked;
     let mut known = places::empty();
-    loop {
-        let found = places::lowest(left);
-        let Found::At(p) = found else {
-            return free;
-        };
+    for p in places::members(asked) {
         let row = standings::recorded(rows, returned, count, p);
         let walked = known_with(known, row, rest, rows, returned, count);
         let possible = walked.holds;
@@ -111,8 +106,8 @@ fn free_among(
         let is_free = all_before(possible, alone, row, rest, rows, returned, count);
         free = unless(is_free, free, p);
         known = walked.seen;
-        left = places::without(left, p);
     }
+    free
 }
 
 // The places of the roster that are open. One that is missing and not mourned blocks all others. Where all that are missing are mourned,

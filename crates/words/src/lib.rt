@@ -8,39 +8,33 @@ ghost use Rattle.boundary.specs.Recoveries.{head_words};
 
 use boundary::{End, Head};
 use histories::Kind;
-use layouts::Writing;
+use refusals::Refusal;
 use sets::PlaceSet;
 
 // A kind as a word: 1 full, 2 short.
 pub fn kind_word(kind: Kind) -> u64
     ensures { result ≡ kind_byte kind }
 {
-    match kind {
-        Kind::Full => 1,
-        Kind::Short => 2,
-    }
+    kind as u64
 }
 
 // Whether or not: 1 or 0.
 pub fn yes_code(b: bool) -> u8
     ensures { result ≡ yes_code b }
 {
-    if b {
-        return 1;
-    }
-    0
+    b as u8
 }
 
 // The refusal and 0, or 0 and where the record ends.
-pub fn end_of(answer: Writing) -> End
+pub fn end_of(answer: Result<usize, Refusal>) -> End
     ensures { result ≡ end_of answer }
 {
     match answer {
-        Writing::Next(end) => End {
+        Ok(end) => End {
             refusal: 0,
             next: end as u64,
         },
-        Writing::Refused(fault) => End {
+        Err(fault) => End {
             refusal: fault as u64,
             next: 0,
         },

@@ -1,5 +1,7 @@
 -- Bytes laid into a buffer: a store at the seam, and a part lent from the seam on to a writer, each make the front longer. And the
 -- bytes of serials, and of those chosen. Assumes nothing.
+use Rattle.refusals.specs.declared.Refusal.TheVariants as R
+use Rattle.std.specs.Prelude.{Option, Some, None, Result, Ok, Err}
 use mathlib.Core.Path.{◌≡◌, refl, sym, ap, ap₂, ◌∙◌}
 use mathlib.Core.Bool.{Bool, true, false, cond, ◌&&◌, and-true, and-false}
 use mathlib.Core.List.{List, [], ◌∷◌, ◌++◌, append_assoc, append-nil}
@@ -17,7 +19,6 @@ use Rattle.sets.specs.PlaceSets.{has, kept}
 use Rattle.sets.specs.declared.PlaceSet.{PlaceSet}
 use Rattle.sets.proofs.Counting.{count_same, count_first, count_add, count_nothing}
 use Rattle.histories.specs.declared.Kind.{Kind}
-use Rattle.layouts.specs.declared.Writing.TheVariants as W
 use Rattle.layouts.specs.Layout.{kind_byte, serial_bytes, serials_bytes, chosen, layout}
 use Rattle.layouts.specs.Records.{unwritten, put_at, written_at, written}
 use Rattle.layouts.specs.Parts.{record_bytes}
@@ -38,13 +39,6 @@ module _ (out : List ℕ) (b : ℕ) (h : 1 ≤ length out) where
   section_laid bs ys q = front_part (b ∷ []) out (set out 0 b) 1 (front_byte [] out out 0 (front_none out) refl b h) refl bs ys q
 
 -- ---- the bytes of serials
-
-pub four : (l : List ℕ) (a b c d : ℕ) → 4 ≤ length l → set (set (set (set l 0 a) 1 b) 2 c) 3 d ≡ a ∷ b ∷ c ∷ d ∷ drop 4 l
-four [] a b c d h = absurd (omega arith)
-four (x ∷ []) a b c d h = absurd (omega arith)
-four (x ∷ y ∷ []) a b c d h = absurd (omega arith)
-four (x ∷ y ∷ z ∷ []) a b c d h = absurd (omega arith)
-four (x ∷ y ∷ z ∷ w ∷ l) a b c d h = refl
 
 pub serial_long : (x : ℕ) → length (serial_bytes x) ≡ 4
 unfolding serial_bytes
@@ -108,30 +102,27 @@ chosen_part M (x ∷ s) (suc i) = go (M 0) (chosen_part (λ k. M (suc k)) s i)
     go true l = omega arith
     go false l = l
 
--- so one that is chosen has room
-pub chosen_room : (M : Places) (s : List ℕ) (i : ℕ) → i < length s
-    → length (serials_bytes (chosen M (take i s))) + length (cond (M i) (serial_bytes (get_or s i 0)) []) ≤ length (chosen M s) * 4
-chosen_room M s i h =
-    omega (arith, sym (length-append (serials_bytes (chosen M (take i s))) (cond (M i) (serial_bytes (get_or s i 0)) [])) ∙ ap length (sym (chosen_bytes M s i h)), serials_long (chosen M (take (i + 1) s)), chosen_part M s (i + 1))
+-- a place that is not chosen adds nothing
+pub none_more : (M : Places) (s : List ℕ) (i : ℕ) → i < length s → M i ≡ false → serials_bytes (chosen M (take i s)) ≡ serials_bytes (chosen M (take (i + 1) s))
+none_more M s i h e = sym (rw e at (chosen_bytes M s i h) ∙ append-nil (serials_bytes (chosen M (take i s))))
 
-pub chosen_four : (M : Places) (s : List ℕ) (i : ℕ) → i < length s → M i ≡ true → length (serials_bytes (chosen M (take i s))) + 4 ≤ length (chosen M s) * 4
-chosen_four M s i h e = rw (e, serial_long) at (chosen_room M s i h)
-
--- one turn: the chosen bytes of the first i stand at the front, p of them, and a writer was lent the part from there on
+-- a place that is chosen: the chosen bytes of the first i stand at the front, p of them, and a writer was lent the part from there on
 module _ (M : Places) (s : List ℕ) (i : ℕ) (h : i < length s) (out₀ out : List ℕ) (p : ℕ)
-    (size : p ≡ length (serials_bytes (chosen M (take i s)))) (laid : out ≡ front (serials_bytes (chosen M (take i s))) out₀) (on : Bool) (is : on ≡ M i) where
-  pub turn_size : (took : ℕ) → took ≡ length (cond on (serial_bytes (get_or s i 0)) []) → p + took ≡ length (serials_bytes (chosen M (take (i + 1) s)))
-  turn_size took e =
-      rw (chosen_bytes M s i h, length-append, ← size, ← is, e)
+    (size : p ≡ length (serials_bytes (chosen M (take i s)))) (laid : out ≡ front (serials_bytes (chosen M (take i s))) out₀) (on : M i ≡ true) where
+  one_more : serials_bytes (chosen M (take (i + 1) s)) ≡ serials_bytes (chosen M (take i s)) ++ serial_bytes (get_or s i 0)
+  one_more = rw on at (chosen_bytes M s i h)
 
-  pub turn_room : (took : ℕ) → took ≡ length (cond on (serial_bytes (get_or s i 0)) []) → p + took ≤ length (chosen M s) * 4
-  turn_room took e = omega (arith, turn_size took e, serials_long (chosen M (take (i + 1) s)), chosen_part M s (i + 1))
+  pub turn_size : p + 4 ≡ length (serials_bytes (chosen M (take (i + 1) s)))
+  turn_size = rw (one_more, length-append, ← size, serial_long)
 
-  pub turn_laid : (ys : List ℕ) → ys ≡ front (cond on (serial_bytes (get_or s i 0)) []) (take (length out - p) (drop p out))
+  pub turn_room : p + 4 ≤ length (chosen M s) * 4
+  turn_room = omega (arith, turn_size, serials_long (chosen M (take (i + 1) s)), chosen_part M s (i + 1))
+
+  pub turn_laid : (ys : List ℕ) → ys ≡ front (serial_bytes (get_or s i 0)) (take (length out - p) (drop p out))
       → put_mid p (length out - p) out ys ≡ front (serials_bytes (chosen M (take (i + 1) s))) out₀
   turn_laid ys e =
-      front_part (serials_bytes (chosen M (take i s))) out₀ out p laid (sym size) (cond on (serial_bytes (get_or s i 0)) []) ys e
-      ∙ rw (chosen_bytes M s i h, ← is)
+      front_part (serials_bytes (chosen M (take i s))) out₀ out p laid (sym size) (serial_bytes (get_or s i 0)) ys e
+      ∙ ap (λ (l : List ℕ). front l out₀) (sym one_more)
 
 -- how many are chosen is how many places of the list are members
 pub chosen_count : (M : Places) (s : List ℕ) → length (chosen M s) ≡ count (length s) M
@@ -188,12 +179,12 @@ unfolding layout
 record_long k own s M = simp (length-append, serial_long, serials_long) (omega arith)
 
 module _ (k : Kind) (own : ℕ) (s : List ℕ) (M : Places) (out : List ℕ) (at : ℕ) where
-  pub write_12 : length s ≤ own → (W.Refused 12 ≡ (written k own s M out at).answer) × (out ≡ (written k own s M out at).buffer)
+  pub write_12 : length s ≤ own → (Err R.OffRoster ≡ (written k own s M out at).answer) × (out ≡ (written k own s M out at).buffer)
   unfolding written unwritten
   write_12 h = (rw (le-ltb own (length s) h), rw (le-ltb own (length s) h))
 
   module _ (on : own < length s) where
-    pub write_3 : 128 < length s → (W.Refused 3 ≡ (written k own s M out at).answer) × (out ≡ (written k own s M out at).buffer)
+    pub write_3 : 128 < length s → (Err R.BadCount ≡ (written k own s M out at).answer) × (out ≡ (written k own s M out at).buffer)
     unfolding written unwritten
     write_3 h = (rw (lt-ltb own (length s) on, lt-leb (length s) 128 h), rw (lt-ltb own (length s) on, lt-leb (length s) 128 h))
 
@@ -202,7 +193,7 @@ module _ (k : Kind) (own : ℕ) (s : List ℕ) (M : Places) (out : List ℕ) (at
       sized : length (record_bytes k own s M) ≡ size
       sized = record_long k own s M ∙ sym long
 
-      pub write_13 : length out < at + size → (W.Refused 13 ≡ (written k own s M out at).answer) × (out ≡ (written k own s M out at).buffer)
+      pub write_13 : length out < at + size → (Err R.TooShort ≡ (written k own s M out at).answer) × (out ≡ (written k own s M out at).buffer)
       unfolding written written_at unwritten
       write_13 h =
           let f : leb (at + length (record_bytes k own s M)) (length out) ≡ false = lt-leb (at + length (record_bytes k own s M)) (length out) (rw sized h) in
@@ -210,7 +201,7 @@ module _ (k : Kind) (own : ℕ) (s : List ℕ) (M : Places) (out : List ℕ) (at
 
       -- ys is the part from the position on, where the record was laid
       pub write_done : at + size ≤ length out → (ys : List ℕ) → ys ≡ front (record_bytes k own s M) (take (length out - at) (drop at out))
-          → (W.Next (at + size) ≡ (written k own s M out at).answer) × (put_mid at (length out - at) out ys ≡ (written k own s M out at).buffer)
+          → (Ok (at + size) ≡ (written k own s M out at).answer) × (put_mid at (length out - at) out ys ≡ (written k own s M out at).buffer)
       unfolding written written_at put_at front
       write_done h ys q =
           let bs = record_bytes k own s M in

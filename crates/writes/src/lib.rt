@@ -2,7 +2,7 @@
 // that is lent to it.
 #![tactic(auto)]
 
-ghost use Rattle.std.specs.Prelude.{◌≡◌, true, cond, [], ◌∷◌, ◌+◌, ◌*◌, ◌≤◌, ◌<◌, length};
+ghost use Rattle.std.specs.Prelude.{◌≡◌, ◌∷◌, ◌+◌, ◌*◌, ◌≤◌, ◌<◌, length};
 ghost use Rattle.sets.specs.Sets.{count};
 ghost use Rattle.sets.specs.PlaceSets.{has};
 ghost use Rattle.layouts.specs.Layout.{kind_byte, serial_bytes, serials_bytes, chosen};
@@ -11,16 +11,13 @@ ghost use Rattle.layouts.specs.Parts.{record_bytes};
 ghost use Rattle.layouts.specs.Fronts.{front};
 
 use histories::Kind;
-use layouts::Writing;
+use refusals::Refusal;
 use sets::{Place, PlaceSet};
 
 fn kind_byte(kind: Kind) -> u8
     ensures { result ≡ kind_byte kind }
 {
-    match kind {
-        Kind::Full => 1,
-        Kind::Short => 2,
-    }
+    kind as u8
 }
 
 // How many places below n are members.
@@ -37,35 +34,17 @@ fn put_serial(out: &mut [u8], x: u32)
     requires { 4 ≤ length out.old }
     ensures { out.new ≡ front (serial_bytes x) out.old }
 {
-    out[0] = (x / 16777216 % 256) as u8;
-    out[1] = (x / 65536 % 256) as u8;
-    out[2] = (x / 256 % 256) as u8;
-    out[3] = (x % 256) as u8;
+    out[..4].copy_from_slice(&x.to_be_bytes());
 }
 
 fn put_serials(out: &mut [u8], list: &[u32])
     requires { length list.now * 4 ≤ length out.old }
     ensures { out.new ≡ front (serials_bytes list.now) out.old }
 {
-    let mut i = 0;
-    while i < list.len() {
+    for (i, x) in list.iter().enumerate() {
         let p = i * 4;
-        put_serial(&mut out[p..], list[i]);
-        i += 1;
+        put_serial(&mut out[p..], *x);
     }
-}
-
-// A serial where it is chosen, and how many bytes that took.
-fn put_if(out: &mut [u8], yes: bool, x: u32) -> usize
-    requires { yes ≡ true → 4 ≤ length out.old }
-    ensures value { result ≡ length (cond yes (serial_bytes x) []) }
-    ensures out_after { out.new ≡ front (cond yes (serial_bytes x) []) out.old }
-{
-    if !yes {
-        return 0;
-    }
-    put_serial(out, x);
-    4
 }
 
 // The serials whose places are in the set, in roster order.
@@ -74,12 +53,11 @@ fn put_chosen(out: &mut [u8], roster: &[u32], set: PlaceSet)
     ensures { out.new ≡ front (serials_bytes (chosen (has set) roster.now)) out.old }
 {
     let mut p = 0;
-    let mut i = 0;
-    while i < roster.len() {
-        let on = places::contains(set, Place(i));
-        let took = put_if(&mut out[p..], on, roster[i]);
-        p += took;
-        i += 1;
+    for (i, x) in roster.iter().enumerate() {
+        if places::contains(set, Place(i)) {
+            put_serial(&mut out[p..], *x);
+            p += 4;
+        }
     }
 }
 
@@ -137,25 +115,25 @@ pub fn write(
     mourned: PlaceSet,
     out: &mut [u8],
     at: usize,
-) -> Writing
+) -> Result<usize, Refusal>
     ensures value { result ≡ (written kind own.0 roster.now (has mourned) out.old at).answer }
     ensures out_after { out.new ≡ (written kind own.0 roster.now (has mourned) out.old at).buffer }
 {
     let n = roster.len();
     if n <= own.0 {
-        return Writing::Refused(12);
+        return Err(Refusal::OffRoster);
     }
     if 128 < n {
-        return Writing::Refused(3);
+        return Err(Refusal::BadCount);
     }
     let m = count_below(mourned, n);
     let size = 7 + n * 4 + m * 4;
     if out.len() < at {
-        return Writing::Refused(13);
+        return Err(Refusal::TooShort);
     }
     if out.len() - at < size {
-        return Writing::Refused(13);
+        return Err(Refusal::TooShort);
     }
     put_record(&mut out[at..], kind, own.0, roster, mourned, m);
-    Writing::Next(at + size)
+    Ok(at + size)
 }

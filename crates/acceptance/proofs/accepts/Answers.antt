@@ -1,8 +1,6 @@
 -- `acceptance::accepts` meets its contract. Assumes nothing.
 use mathlib.Core.Path.{sym, ◌∙◌}
-use borrow.Author.Tests.{not-true, not-false}
 use Rattle.acceptance.proofs.Acceptance.{preceding_is, accepts_circle, accepts_lacks, accepts_rest}
-use borrow.Author.Rules.{rules}
 use Rattle.acceptance.proofs.accepts.Goals as goal
 
 pub returns-then-contains : goal.returns-then-contains

@@ -3,7 +3,6 @@ use mathlib.Core.Path.{sym, ap, ◌∙◌}
 use mathlib.Core.Bool.{Bool, not, ◌||◌}
 use Rattle.sets.specs.Sets.{subset}
 use Rattle.sets.specs.PlaceSets.{has}
-use borrow.Author.Rules.{rules}
 use Rattle.acceptance.proofs.agrees.Goals as goal
 
 pub returns-then-contains : goal.returns-then-contains

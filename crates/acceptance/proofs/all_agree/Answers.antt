@@ -1,31 +1,17 @@
--- `answers::all_agree` meets its contract. Assumes nothing.
-use mathlib.Core.Path.{sym, ◌∙◌}
-use native.Mathlib.Omega.{arith}
-use borrow.Author.Tests.{not-true, not-false}
-use Rattle.sets.specs.PlaceSets.{has}
-use Rattle.sets.proofs.Laws.{lowest_found, lowest_nothing, without_count}
-use Rattle.acceptance.proofs.Acceptance.{Agreed, agreed_none, every, differs, goes}
+-- `acceptance::all_agree` meets its contract. Assumes nothing.
+use mathlib.Core.Path.{◌∙◌, ap}
+use borrow.Author.Tests.{tests}
 use borrow.Author.Rules.{rules}
+use Rattle.sets.specs.Sets.{intersection}
+use Rattle.sets.specs.PlaceSets.{has}
+use Rattle.sets.proofs.Members.{pass, all_members}
+use Rattle.rows.specs.Rows.{rows_of}
+use Rattle.acceptance.proofs.Acceptance.{agreeing, each_agrees}
 use Rattle.acceptance.proofs.all_agree.Goals as goal
 
-pub loop-p-init : goal.loop-p-init
-loop-p-init c = agreed_none _ _ _ _ _
-
-pub returns-in_default : goal.returns-in_default
-returns-in_default c =
-    every _ _ _ _ _ _ _ _ _ _ c.roster-all.ensures c.intersection-known.ensures c.intersection-back.ensures c.intersection-left.ensures _ c.loop-p.invariant (lowest_nothing 128 _ (sym c.lowest-found.ensures ∙ c.in_default.is))
-
-pub returns-then-not-agrees : goal.returns-then-not-agrees
-returns-then-not-agrees c =
-    let low = lowest_found 128 _ _ (sym c.lowest-found.ensures ∙ c.in-At.is) in
-    differs _ _ _ _ _ _ _ _ _ _ c.roster-all.ensures c.intersection-known.ensures c.intersection-back.ensures c.intersection-left.ensures _ c.loop-p.invariant _ low.0 _ c.row_in-theirs.ensures _ c.agrees.ensures (c.if-not-agrees.true)
-
-pub loop-p-smaller : goal.loop-p-smaller
-loop-p-smaller c =
-    let low = lowest_found 128 _ _ (sym c.lowest-found.ensures ∙ c.in-At.is) in
-    omega (arith, without_count _ _ _ low.0 c.without-left.ensures)
-
-pub loop-p-preserved : goal.loop-p-preserved
-loop-p-preserved c =
-    let low = lowest_found 128 _ _ (sym c.lowest-found.ensures ∙ c.in-At.is) in
-    goes _ _ _ _ _ _ _ _ _ _ c.roster-all.ensures c.intersection-known.ensures c.intersection-back.ensures c.intersection-left.ensures _ c.loop-p.invariant _ low.0 _ c.row_in-theirs.ensures _ c.agrees.ensures (c.if-not-agrees.false) _ c.without-left.ensures
+pub returns : goal.returns
+returns c =
+    let test = λ (m : _). agreeing (intersection (has c.roster-all.result) (rows_of c.args.rows.now m)) c.args.place.0 c.intersection-known.result in
+    all_members (λ s. s.left) _ _ test (λ x b q h. search (rules, tests)) _ _ _ c.all.ensures.ran
+    ∙ ap (pass test) c.members.ensures
+    ∙ each_agrees _ _ _ _ _ _ _ _ _ _ c.roster-all.ensures c.intersection-known.ensures c.intersection-back.ensures c.intersection-asked.ensures

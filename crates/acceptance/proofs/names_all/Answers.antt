@@ -1,6 +1,5 @@
 -- `answers::names_all` meets its contract. Assumes nothing.
 use Rattle.acceptance.proofs.Acceptance.{names_all, short_free}
-use borrow.Author.Rules.{rules}
 use Rattle.acceptance.proofs.names_all.Goals as goal
 
 pub returns-in-Full : goal.returns-in-Full

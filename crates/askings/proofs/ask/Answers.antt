@@ -11,17 +11,6 @@ pub returns-then-n-place : goal.returns-then-n-place
 unfolding size_of
 returns-then-n-place c = sym (asked_off _ (sym c.size-n.ensures.value) _ (omega arith))
 
-pub returns-in-Last : goal.returns-in-Last
+pub returns : goal.returns
 unfolding size_of accepted_of
-returns-in-Last c =
-    asked_on _ _ refl _ (omega (arith, c.size-n.ensures.value)) _ (sym c.in-Last.is ∙ c.answer_for-answer.ensures)
-
-pub returns-in-NotLast : goal.returns-in-NotLast
-unfolding size_of accepted_of
-returns-in-NotLast c =
-    asked_on _ _ refl _ (omega (arith, c.size-n.ensures.value)) _ (sym c.in-NotLast.is ∙ c.answer_for-answer.ensures)
-
-pub returns-in-Open : goal.returns-in-Open
-unfolding size_of accepted_of
-returns-in-Open c =
-    asked_on _ _ refl _ (omega (arith, c.size-n.ensures.value)) _ (sym c.in-Open.is ∙ c.answer_for-answer.ensures)
+returns c = asked_on _ _ refl _ (omega (arith, c.size-n.ensures.value)) _ c.answer_for.ensures

@@ -1,7 +1,6 @@
 -- `blocking::answer_for` meets its contract. Assumes nothing.
 use mathlib.Core.Path.{sym, ◌∙◌}
 use Rattle.answers.proofs.Answers.{answer_mourned, answer_blocked, answer_free}
-use borrow.Author.Rules.{rules}
 use Rattle.blocking.proofs.answer_for.Goals as goal
 
 pub returns-then-contains : goal.returns-then-contains

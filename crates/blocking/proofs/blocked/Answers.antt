@@ -1,9 +1,7 @@
 -- `answers::blocked` meets its contract. Assumes nothing.
 use mathlib.Core.Path.{sym, ap, ◌∙◌}
-use borrow.Author.Tests.{not-true}
 use Rattle.sets.specs.Sets.{without}
 use Rattle.answers.proofs.Answers.{none_has, none_blocks, sure_blocks, blockers_are, some_blocker}
-use borrow.Author.Rules.{rules}
 use Rattle.blocking.proofs.blocked.Goals as goal
 
 pub returns-then-is_empty : goal.returns-then-is_empty

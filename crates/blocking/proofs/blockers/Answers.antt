@@ -1,6 +1,5 @@
 -- `blocking::blockers` meets its contract. Assumes nothing.
 use Rattle.answers.proofs.Answers.{blockers_are}
-use borrow.Author.Rules.{rules}
 use Rattle.blocking.proofs.blockers.Goals as goal
 
 pub returns : goal.returns

@@ -1,7 +1,6 @@
 -- `answers::narrowed` meets its contract. Assumes nothing.
 use mathlib.Core.Path.{sym, ◌∙◌}
 use Rattle.answers.proofs.Answers.{narrowed_full, narrowed_other}
-use borrow.Author.Rules.{rules}
 use Rattle.blocking.proofs.narrowed.Goals as goal
 
 pub returns-then-full_back : goal.returns-then-full_back

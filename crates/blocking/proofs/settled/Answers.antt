@@ -1,31 +1,20 @@
 -- `blocking::settled` meets its contract. Assumes nothing.
-use mathlib.Core.Path.{sym, ◌∙◌}
-use native.Mathlib.Omega.{arith}
-use Rattle.sets.specs.PlaceSets.{has}
-use Rattle.sets.proofs.Laws.{lowest_found, lowest_nothing, without_count}
-use Rattle.answers.specs.Views.{size, accepted_in}
-use Rattle.answers.proofs.Answers.{Passed, passed_none, passed_next, settled_all, settled_open}
+use mathlib.Core.Path.{◌∙◌, ap}
+use mathlib.Core.Bool.{not}
+use borrow.Author.Tests.{tests}
 use borrow.Author.Rules.{rules}
+use Rattle.sets.specs.Sets.{any}
+use Rattle.sets.specs.PlaceSets.{has}
+use Rattle.sets.proofs.Members.{pass, all_members}
+use Rattle.histories.specs.Kept.{blockers_by}
+use Rattle.answers.specs.Views.{size, accepted_in}
+use Rattle.answers.proofs.Answers.{settled_each}
 use Rattle.blocking.proofs.settled.Goals as goal
 
-pub loop-p-init : goal.loop-p-init
-loop-p-init c = passed_none _ _ _ _ _
-
-pub returns-in_default : goal.returns-in_default
-returns-in_default c = settled_all _ _ _ _ _ _ c.unmourned-unasked.ensures c.loop-p.invariant (lowest_nothing 128 _ (sym c.lowest-found.ensures ∙ c.in_default.is))
-
-pub returns-then-blocked : goal.returns-then-blocked
-returns-then-blocked c =
-    let low = lowest_found 128 _ _ (sym c.lowest-found.ensures ∙ c.in-At.is) in
-    settled_open _ _ _ _ _ _ c.unmourned-unasked.ensures c.loop-p.invariant _ low.0
-    (sym c.blocked.ensures ∙ c.if-blocked.true)
-
-pub loop-p-smaller : goal.loop-p-smaller
-loop-p-smaller c =
-    let low = lowest_found 128 _ _ (sym c.lowest-found.ensures ∙ c.in-At.is) in
-    omega (arith, without_count _ _ _ low.0 c.without-unasked.ensures)
-
-pub loop-p-preserved : goal.loop-p-preserved
-loop-p-preserved c =
-    passed_next _ _ _ _ _ _ _ c.loop-p.invariant _
-    (sym c.blocked.ensures ∙ c.if-blocked.false) c.without-unasked.ensures
+pub returns : goal.returns
+returns c =
+    let s = c.args in
+    let test = λ (i : _). not (any (size s.count) (blockers_by (size s.count) (accepted_in s.count (has s.returned) (has s.full) s.rows.now) (has s.mourned) (has s.earlier) i)) in
+    all_members (λ s. s.left) _ _ test (λ x b q h. search (rules, tests)) _ _ _ c.all.ensures.ran
+    ∙ ap (pass test) c.members.ensures
+    ∙ settled_each _ _ _ _ _ c.unmourned-unasked.ensures

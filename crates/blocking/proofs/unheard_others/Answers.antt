@@ -1,7 +1,6 @@
 -- `answers::unheard_others` meets its contract. Assumes nothing.
 use mathlib.Core.Path.{ap, ◌∙◌}
 use Rattle.sets.specs.Sets.{without}
-use borrow.Author.Rules.{rules}
 use Rattle.blocking.proofs.unheard_others.Goals as goal
 
 pub returns : goal.returns

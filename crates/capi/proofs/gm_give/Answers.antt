@@ -1,4 +1,7 @@
 -- `capi::gm_give` meets its contract. Assumes nothing.
+use Rattle.refusals.proofs.Numbers.{as_numbered}
+use Rattle.std.proofs.Common.{◌∙◌}
+use Rattle.std.specs.Prelude.{Option, Some, None, Result, Ok, Err}
 use mathlib.Core.Path.{◌≡◌, refl}
 use native.Mathlib.Omega.{arith}
 use lib.ListN.{length}
@@ -9,19 +12,19 @@ use Rattle.capi.proofs.gm_give.Goals as goal
 
 pub offset_bounds-seconds-place : goal.offset_bounds-seconds-place
 offset_bounds-seconds-place c =
-    let l = gave_on _ _ _ _ _ _ c.may_give-answer.ensures c.in-Given.is in
+    let l = gave_on _ _ _ _ _ _ c.may_give-answer.ensures c.in-Ok.is in
     omega (arith, l)
 
 pub bounds-seconds-place : goal.bounds-seconds-place
 bounds-seconds-place c =
-    let l = gave_on _ _ _ _ _ _ c.may_give-answer.ensures c.in-Given.is in
+    let l = gave_on _ _ _ _ _ _ c.may_give-answer.ensures c.in-Ok.is in
     let n : length c.args.seconds.now ≡ 128 = search rules in
     omega (arith, l, n)
 
-pub returns-in-Given : goal.returns-in-Given
-returns-in-Given c =
-    record { by_index = λ rows. (gives_given _ _ (c.read_head-h.ensures.count_value, (c.read_head-h.ensures.returned_value, (c.read_head-h.ensures.full_value, (c.read_head-h.ensures.mourned_value, c.read_head-h.ensures.earlier_value)))) _ _ rows _ _ _ c.may_give-answer.ensures c.in-Given.is _ refl).0; by_index_2 = λ rows. (gives_given _ _ (c.read_head-h.ensures.count_value, (c.read_head-h.ensures.returned_value, (c.read_head-h.ensures.full_value, (c.read_head-h.ensures.mourned_value, c.read_head-h.ensures.earlier_value)))) _ _ rows _ _ _ c.may_give-answer.ensures c.in-Given.is _ refl).1 }
+pub returns-in-Ok : goal.returns-in-Ok
+returns-in-Ok c =
+    record { by_index = λ rows. (gives_given _ _ (c.read_head-h.ensures.count_value, (c.read_head-h.ensures.returned_value, (c.read_head-h.ensures.full_value, (c.read_head-h.ensures.mourned_value, c.read_head-h.ensures.earlier_value)))) _ _ rows _ _ _ c.may_give-answer.ensures c.in-Ok.is _ refl).0; by_index_2 = λ rows. (gives_given _ _ (c.read_head-h.ensures.count_value, (c.read_head-h.ensures.returned_value, (c.read_head-h.ensures.full_value, (c.read_head-h.ensures.mourned_value, c.read_head-h.ensures.earlier_value)))) _ _ rows _ _ _ c.may_give-answer.ensures c.in-Ok.is _ refl).1 }
 
-pub returns-in-Refused : goal.returns-in-Refused
-returns-in-Refused c =
-    record { by_index = λ rows. (gives_refused _ _ (c.read_head-h.ensures.count_value, (c.read_head-h.ensures.returned_value, (c.read_head-h.ensures.full_value, (c.read_head-h.ensures.mourned_value, c.read_head-h.ensures.earlier_value)))) _ _ rows _ _ _ c.may_give-answer.ensures _ c.in-Refused.is).0; by_index_2 = λ rows. (gives_refused _ _ (c.read_head-h.ensures.count_value, (c.read_head-h.ensures.returned_value, (c.read_head-h.ensures.full_value, (c.read_head-h.ensures.mourned_value, c.read_head-h.ensures.earlier_value)))) _ _ rows _ _ _ c.may_give-answer.ensures _ c.in-Refused.is).1 }
+pub returns-in-Err : goal.returns-in-Err
+returns-in-Err c =
+    record { by_index = λ rows. as_numbered _ ∙ (gives_refused _ _ (c.read_head-h.ensures.count_value, (c.read_head-h.ensures.returned_value, (c.read_head-h.ensures.full_value, (c.read_head-h.ensures.mourned_value, c.read_head-h.ensures.earlier_value)))) _ _ rows _ _ _ c.may_give-answer.ensures _ c.in-Err.is).0; by_index_2 = λ rows. (gives_refused _ _ (c.read_head-h.ensures.count_value, (c.read_head-h.ensures.returned_value, (c.read_head-h.ensures.full_value, (c.read_head-h.ensures.mourned_value, c.read_head-h.ensures.earlier_value)))) _ _ rows _ _ _ c.may_give-answer.ensures _ c.in-Err.is).1 }

@@ -1,13 +1,13 @@
 -- `capi_answers::listing_code` meets its contract. Assumes nothing.
-use mathlib.Core.Path.{sym, ap}
-use borrow.Author.Rules.{rules}
+use Rattle.std.proofs.Common.{sym, ap, ◌∙◌}
+use Rattle.refusals.proofs.Numbers.{as_numbered}
 use Rattle.boundary.specs.Recoveries.{listing_code}
 use Rattle.capi_answers.proofs.listing_code.Goals as goal
 
-pub returns-in-Laid : goal.returns-in-Laid
+pub returns-in-Ok : goal.returns-in-Ok
 unfolding listing_code
-returns-in-Laid c = sym (ap listing_code c.in-Laid.is)
+returns-in-Ok c = sym (ap listing_code c.in-Ok.is)
 
-pub returns-in-Refused : goal.returns-in-Refused
+pub returns-in-Err : goal.returns-in-Err
 unfolding listing_code
-returns-in-Refused c = sym (ap listing_code c.in-Refused.is)
+returns-in-Err c = as_numbered _ ∙ sym (ap listing_code c.in-Err.is)

@@ -1,5 +1,4 @@
 -- `capi_days::day_in` meets its contract. Assumes nothing.
-use borrow.Author.Rules.{rules}
 use Rattle.capi_days.proofs.Days.{day_is}
 use Rattle.capi_days.proofs.day_in.Goals as goal
 

@@ -1,5 +1,4 @@
 -- `capi_days::day_now` meets its contract. Assumes nothing.
-use borrow.Author.Rules.{rules}
 use Rattle.boundary.specs.Days.{day_now}
 use Rattle.capi_days.proofs.day_now.Goals as goal
 

@@ -1,5 +1,4 @@
 -- `capi_days::day_of` meets its contract. Assumes nothing.
-use borrow.Author.Rules.{rules}
 use Rattle.boundary.specs.Days.{day_of}
 use Rattle.capi_days.proofs.day_of.Goals as goal
 

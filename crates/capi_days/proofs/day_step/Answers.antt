@@ -1,17 +1,12 @@
 -- `capi_days::day_step` meets its contract. Assumes nothing.
-use mathlib.Core.Path.{◌≡◌}
-use lib.ListN.{length}
-use borrow.Author.Rules.{rules}
 use Rattle.boundary.specs.Days.{event_of}
 use Rattle.capi_days.proofs.Plays.{step_refused, step_on}
 use Rattle.capi_days.proofs.day_step.Goals as goal
 
 pub returns-then-p-ne0 : goal.returns-then-p-ne0
-returns-then-p-ne0 c =
-    let l : length c.args.p.day.head ≡ 4 = search rules in
-    step_refused _ _ c.if-p-ne0.true l
+returns-then-p-ne0 c = step_refused _ _ c.if-p-ne0.true
 
 pub returns : goal.returns
 unfolding event_of
 returns c =
-    step_on _ _ _ _ _ _ c.if-p-ne0.false c.day_of-day.ensures c.kind_byte-kind.ensures c.step-played.ensures c.day_now-day.ensures
+    step_on _ _ _ _ _ _ _ c.if-p-ne0.false c.day_of-day.ensures c.kind_byte-kind.ensures c.step-played.ensures c.day_now-day.ensures c.done_code.ensures

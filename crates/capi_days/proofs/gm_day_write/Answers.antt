@@ -1,5 +1,4 @@
 -- `capi_days::gm_day_write` meets its contract. Assumes nothing.
-use borrow.Author.Rules.{rules}
 use Rattle.capi_days.proofs.Days.{write_is}
 use Rattle.capi_days.proofs.gm_day_write.Goals as goal
 

@@ -1,6 +1,5 @@
 -- `capi_days::read_day_head` meets its contract. Assumes nothing.
 use mathlib.Core.Path.{refl}
-use borrow.Author.Rules.{rules}
 use Rattle.boundary.specs.Words.{set_at}
 use Rattle.boundary.specs.Days.{kind_in, stopped_in}
 use Rattle.capi_days.proofs.read_day_head.Goals as goal

@@ -1,5 +1,4 @@
 -- `capi_days::write_day_head` meets its contract. Assumes nothing.
-use borrow.Author.Rules.{rules}
 use Rattle.boundary.specs.Days.{day_head_of}
 use Rattle.capi_days.proofs.write_day_head.Goals as goal
 

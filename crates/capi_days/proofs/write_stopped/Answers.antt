@@ -1,6 +1,5 @@
 -- `capi_days::write_stopped` meets its contract. Assumes nothing.
 use mathlib.Core.Path.{refl}
-use borrow.Author.Rules.{rules}
 use Rattle.boundary.specs.Days.{with_stopped}
 use Rattle.capi_days.proofs.write_stopped.Goals as goal
 

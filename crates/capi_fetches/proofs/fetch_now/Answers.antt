@@ -4,10 +4,10 @@ use borrow.Author.Rules.{rules}
 use Rattle.boundary.specs.Fetches.{fetch_of}
 use Rattle.capi_fetches.proofs.fetch_now.Goals as goal
 
-pub returns-in-Settled : goal.returns-in-Settled
+pub returns-in-None : goal.returns-in-None
 unfolding fetch_of
-returns-in-Settled c = sym (ap fetch_of c.in-Settled.is)
+returns-in-None c = sym (ap fetch_of c.in-None.is)
 
-pub returns-in-Needs : goal.returns-in-Needs
+pub returns-in-Some : goal.returns-in-Some
 unfolding fetch_of
-returns-in-Needs c = sym (ap fetch_of c.in-Needs.is)
+returns-in-Some c = sym (ap fetch_of c.in-Some.is)

@@ -1,13 +1,13 @@
 -- `capi_fetches::game_now` meets its contract. Assumes nothing.
-use mathlib.Core.Path.{sym, ap}
-use borrow.Author.Rules.{rules}
+use Rattle.std.proofs.Common.{sym, ap, ◌∙◌, ℕ}
+use Rattle.refusals.proofs.Numbers.{as_numbered}
 use Rattle.boundary.specs.Fetches.{game_of}
 use Rattle.capi_fetches.proofs.game_now.Goals as goal
 
-pub returns-in-Fetches : goal.returns-in-Fetches
+pub returns-in-Ok : goal.returns-in-Ok
 unfolding game_of
-returns-in-Fetches c = sym (ap game_of c.in-Fetches.is)
+returns-in-Ok c = sym (ap game_of c.in-Ok.is)
 
-pub returns-in-Refused : goal.returns-in-Refused
+pub returns-in-Err : goal.returns-in-Err
 unfolding game_of
-returns-in-Refused c = sym (ap game_of c.in-Refused.is)
+returns-in-Err c = ap (λ (n : ℕ). record { refusal = n; fetches = 0 }) (as_numbered _) ∙ sym (ap game_of c.in-Err.is)

@@ -18,11 +18,11 @@ returns-in_default c =
 
 pub loop-p-smaller : goal.loop-p-smaller
 loop-p-smaller c =
-    let low = lowest_found 128 _ _ (sym c.lowest-found.ensures ∙ c.in-At.is) in
+    let low = lowest_found 128 _ _ (sym c.lowest-found.ensures ∙ c.in-Some.is) in
     let m = reached_left _ _ _ _ _ c.roster-all.ensures c.intersection-waiting.ensures _ _ _ c.loop-p.invariant _ c.intersection-next.ensures _ low.0 in
     omega (arith, without_count _ _ _ m c.without-waiting.ensures)
 
 pub loop-p-preserved : goal.loop-p-preserved
 loop-p-preserved c =
-    let low = lowest_found 128 _ _ (sym c.lowest-found.ensures ∙ c.in-At.is) in
+    let low = lowest_found 128 _ _ (sym c.lowest-found.ensures ∙ c.in-Some.is) in
     reached_goes _ _ _ _ _ c.roster-all.ensures c.intersection-waiting.ensures _ _ _ c.loop-p.invariant _ c.intersection-next.ensures _ low.0 _ _ _ c.row_in-row.ensures c.union-seen.ensures c.without-waiting.ensures

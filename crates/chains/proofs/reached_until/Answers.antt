@@ -25,13 +25,13 @@ returns-in_default c =
 
 pub loop-all-smaller : goal.loop-all-smaller
 loop-all-smaller c =
-    let low = lowest_found 128 _ _ (sym c.lowest-found.ensures ∙ c.in-At.is) in
+    let low = lowest_found 128 _ _ (sym c.lowest-found.ensures ∙ c.in-Some.is) in
     let m = reached_left _ _ _ _ _ c.roster-all.ensures c.intersection-untaken.ensures _ _ _ c.loop-all.invariant.reaching _ c.intersection-next.ensures _ low.0 in
     omega (arith, without_count _ _ _ m c.without-untaken.ensures)
 
 pub loop-all-preserved : goal.loop-all-preserved
 loop-all-preserved c =
-    let low = lowest_found 128 _ _ (sym c.lowest-found.ensures ∙ c.in-At.is) in
+    let low = lowest_found 128 _ _ (sym c.lowest-found.ensures ∙ c.in-Some.is) in
     record {
       reaching = reached_goes _ _ _ _ _ c.roster-all.ensures c.intersection-untaken.ensures _ _ _ c.loop-all.invariant.reaching _ c.intersection-next.ensures _ low.0 _ _ _ c.row_in-row.ensures c.union-held.ensures c.without-untaken.ensures;
       lacks = lacks_less _ _ _ _ _ _ c.loop-all.invariant.lacks c.union-held.ensures c.difference-lacking-in-loop-all.ensures;

@@ -2,7 +2,6 @@
 use mathlib.Core.Path.{refl, ap, ◌∙◌}
 use Prim.Native.Nat.{◌-◌}
 use native.Mathlib.Omega.{arith}
-use borrow.Author.Rules.{rules}
 use Rattle.sets.specs.Sets.{Places, intersection}
 use Rattle.sets.specs.PlaceSets.{has}
 use Rattle.checks.proofs.ahead.Goals as goal

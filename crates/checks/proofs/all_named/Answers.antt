@@ -1,11 +1,5 @@
 -- `checks::all_named` meets its contract: what is gathered so far are the places in the rows passed. Assumes nothing.
-use mathlib.Core.Path.{◌≡◌}
-use Prim.Native.Nat.{◌≤◌, ◌-◌}
 use native.Mathlib.Omega.{arith}
-use borrow.Author.Rules.{rules}
-use Rattle.sets.specs.Sets.{any}
-use Rattle.sets.specs.PlaceSets.{has}
-use Rattle.rows.specs.Rows.{history_in}
 use Rattle.checks.proofs.Checks.{named_start, named_next, named_all}
 use Rattle.checks.proofs.all_named.Goals as goal
 

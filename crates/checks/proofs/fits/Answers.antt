@@ -1,8 +1,6 @@
 -- `checks::fits` meets its contract. Assumes nothing.
 use mathlib.Core.Path.{sym, ◌∙◌}
 use native.Mathlib.Omega.{arith}
-use borrow.Author.Tests.{not-true, not-false}
-use borrow.Author.Rules.{rules}
 use Rattle.checks.proofs.Checks.{fits_not, fits_circle, fits_duty}
 use Rattle.checks.proofs.fits.Goals as goal
 

@@ -1,5 +1,4 @@
 -- `checks::lent_row` meets its contract. Assumes nothing.
-use borrow.Author.Rules.{rules}
 use Rattle.checks.proofs.Checks.{lent_is}
 use Rattle.checks.proofs.lent_row.Goals as goal
 

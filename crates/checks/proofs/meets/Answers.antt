@@ -1,7 +1,6 @@
 -- `checks::meets` meets its contract. Assumes nothing.
 use mathlib.Core.Path.{ap, ◌∙◌}
 use mathlib.Core.Bool.{not, not-not}
-use borrow.Author.Rules.{rules}
 use Rattle.sets.specs.Sets.{any}
 use Rattle.checks.proofs.meets.Goals as goal
 

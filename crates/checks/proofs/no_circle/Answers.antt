@@ -1,14 +1,12 @@
 -- `checks::no_circle` meets its contract: the walk goes on, or it is over. Assumes nothing.
 use mathlib.Core.Path.{refl, sym, ap, ◌∙◌}
-use Prim.Native.Nat.{◌+◌, ◌*◌, ◌-◌}
+use Prim.Native.Nat.{◌-◌}
 use native.Mathlib.Omega.{arith}
 use borrow.Author.Rules.{rules}
-use Rattle.sets.specs.Sets.{Places, count}
-use Rattle.sets.specs.PlaceSets.{has}
+use Rattle.sets.specs.Sets.{Places}
 use Rattle.sets.proofs.Laws.{lowest_found, lowest_nothing, without_count}
-use Rattle.rows.specs.Rows.{history_in}
 use Rattle.checks.proofs.Checks.{lent_on}
-use Rattle.checks.proofs.Walk.{Walk, walk_starts, next_left, next_follows, next_none, walk_room, walk_longer, walk_circle, walk_shorter, walk_ends}
+use Rattle.checks.proofs.Walk.{walk_starts, next_left, next_follows, next_none, walk_room, walk_longer, walk_circle, walk_shorter, walk_ends}
 use Rattle.checks.proofs.no_circle.Goals as goal
 
 pub loop-p-init : goal.loop-p-init
@@ -41,25 +39,25 @@ loop-p-preserved-in_default c =
 
 pub overflow_cast-path : goal.overflow_cast-path
 overflow_cast-path c =
-    let l = (lowest_found 128 _ _ (sym c.lowest-found.ensures ∙ c.in-At.is)).1 in
+    let l = (lowest_found 128 _ _ (sym c.lowest-found.ensures ∙ c.in-Some.is)).1 in
     record { fits = omega arith }
 
 pub bounds-path-depth-in-loop-p : goal.bounds-path-depth-in-loop-p
 bounds-path-depth-in-loop-p c =
     let t = c.loop-p.invariant in
-    let m = (lowest_found 128 _ _ (sym c.lowest-found.ensures ∙ c.in-At.is)).0 in
+    let m = (lowest_found 128 _ _ (sym c.lowest-found.ensures ∙ c.in-Some.is)).0 in
     let l = next_left _ _ _ _ _ _ t _ c.ahead.ensures.result_value (c.ahead.ensures.by_index c.args.n) _ m in
     let room = walk_room _ _ _ _ _ _ t _ l in
     search (rules, room)
 
 pub lent_row-requires : goal.lent_row-requires
 lent_row-requires c =
-    (lowest_found 128 _ _ (sym c.lowest-found.ensures ∙ c.in-At.is)).1
+    (lowest_found 128 _ _ (sym c.lowest-found.ensures ∙ c.in-Some.is)).1
 
 pub returns-then-meets : goal.returns-then-meets
 returns-then-meets c =
     let t = c.loop-p.invariant in
-    let m = (lowest_found 128 _ _ (sym c.lowest-found.ensures ∙ c.in-At.is)).0 in
+    let m = (lowest_found 128 _ _ (sym c.lowest-found.ensures ∙ c.in-Some.is)).0 in
     let l = next_left _ _ _ _ _ _ t _ c.ahead.ensures.result_value (c.ahead.ensures.by_index c.args.n) _ m in
     let f = next_follows _ _ _ _ _ _ t _ c.ahead.ensures.result_value (c.ahead.ensures.by_index c.args.n) _ m in
     let row = c.lent_row.ensures c.args.n (t.unmet _ l).0 in
@@ -68,14 +66,14 @@ returns-then-meets c =
 pub loop-p-smaller : goal.loop-p-smaller
 loop-p-smaller c =
     let t = c.loop-p.invariant in
-    let m = (lowest_found 128 _ _ (sym c.lowest-found.ensures ∙ c.in-At.is)).0 in
+    let m = (lowest_found 128 _ _ (sym c.lowest-found.ensures ∙ c.in-Some.is)).0 in
     let l = next_left _ _ _ _ _ _ t _ c.ahead.ensures.result_value (c.ahead.ensures.by_index c.args.n) _ m in
     omega (arith, without_count _ _ _ l c.without-left.ensures)
 
 pub loop-p-preserved : goal.loop-p-preserved
 loop-p-preserved c =
     let t = c.loop-p.invariant in
-    let m = (lowest_found 128 _ _ (sym c.lowest-found.ensures ∙ c.in-At.is)).0 in
+    let m = (lowest_found 128 _ _ (sym c.lowest-found.ensures ∙ c.in-Some.is)).0 in
     let l = next_left _ _ _ _ _ _ t _ c.ahead.ensures.result_value (c.ahead.ensures.by_index c.args.n) _ m in
     let f = next_follows _ _ _ _ _ _ t _ c.ahead.ensures.result_value (c.ahead.ensures.by_index c.args.n) _ m in
     let row = c.lent_row.ensures c.args.n (t.unmet _ l).0 in

@@ -1,14 +1,9 @@
 -- `checks::no_circle` meets its contract: the walk goes on, or it is over. Assumes nothing.
-use mathlib.Core.Path.{refl, sym, ap, ◌∙◌}
-use Prim.Native.Nat.{◌+◌, ◌*◌, ◌-◌}
-use native.Mathlib.Omega.{arith}
-use borrow.Author.Rules.{rules}
-use Rattle.sets.specs.Sets.{Places, count}
+use Prim.Native.Nat.{◌+◌, ◌*◌}
+use Rattle.sets.specs.Sets.{count}
 use Rattle.sets.specs.PlaceSets.{has}
-use Rattle.sets.proofs.Laws.{lowest_found, lowest_nothing, without_count}
 use Rattle.rows.specs.Rows.{history_in}
-use Rattle.checks.proofs.Checks.{lent_on}
-use Rattle.checks.proofs.Walk.{Walk, walk_starts, next_left, next_follows, next_none, walk_room, walk_longer, walk_circle, walk_shorter, walk_ends}
+use Rattle.checks.proofs.Walk.{Walk}
 use Rattle.checks.proofs.no_circle.Given as goal
 
 abbrev pub invariant-loop-p : goal.invariant-loop-p

@@ -1,5 +1,4 @@
 -- `checks::off_roster` meets its contract. Assumes nothing.
-use borrow.Author.Rules.{rules}
 use Rattle.checks.proofs.Checks.{row_off, named_off}
 use Rattle.checks.proofs.off_roster.Goals as goal
 

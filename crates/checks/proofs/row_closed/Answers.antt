@@ -2,14 +2,8 @@
 use mathlib.Core.Path.{refl, sym, ◌∙◌}
 use mathlib.Core.Bool.{true≢false, false≢true}
 use native.Mathlib.Omega.{arith}
-use borrow.Author.Tests.{not-true, not-false}
-use borrow.Author.Rules.{rules}
-use Rattle.sets.specs.Sets.{count}
-use Rattle.sets.specs.PlaceSets.{has}
 use Rattle.sets.proofs.Laws.{lowest_found, lowest_nothing}
-use Rattle.rows.specs.Rows.{history_in}
-use Rattle.answers.specs.Checks.{Covered}
-use Rattle.checks.proofs.Checks.{Turns, turns_start, turns_end, subset_is}
+use Rattle.checks.proofs.Checks.{turns_start, turns_end, subset_is}
 use Rattle.checks.proofs.Closed.{row_open, row_less, row_goes}
 use Rattle.checks.proofs.row_closed.Goals as goal
 
@@ -24,11 +18,11 @@ pub returns-in_default : goal.returns-in_default
 returns-in_default c = record { covered = λ e. turns_end _ _ _ _ c.loop-m.invariant (omega arith) (lowest_nothing 128 _ (sym c.lowest-found.ensures ∙ c.in_default.is)); p_value = λ e. absurd (true≢false e) }
 
 pub lent_row-requires : goal.lent_row-requires
-lent_row-requires c = (lowest_found 128 _ _ (sym c.lowest-found.ensures ∙ c.in-At.is)).1
+lent_row-requires c = (lowest_found 128 _ _ (sym c.lowest-found.ensures ∙ c.in-Some.is)).1
 
 pub returns-then-not-is_subset : goal.returns-then-not-is_subset
 returns-then-not-is_subset c =
-    let low = (lowest_found 128 _ _ (sym c.lowest-found.ensures ∙ c.in-At.is)).0 in
+    let low = (lowest_found 128 _ _ (sym c.lowest-found.ensures ∙ c.in-Some.is)).0 in
     let row = c.lent_row-row.ensures c.args.n (omega arith) in
     let other = c.lent_row.ensures c.args.n (c.loop-m.invariant.on _ low).0 in
     let held = subset_is _ (omega arith) _ _ _ c.below-roster.ensures _ _ _ _ _ other row refl c.intersection-inner.ensures c.is_subset.ensures in
@@ -36,12 +30,12 @@ returns-then-not-is_subset c =
 
 pub loop-m-smaller : goal.loop-m-smaller
 loop-m-smaller c =
-    let low = (lowest_found 128 _ _ (sym c.lowest-found.ensures ∙ c.in-At.is)).0 in
+    let low = (lowest_found 128 _ _ (sym c.lowest-found.ensures ∙ c.in-Some.is)).0 in
     row_less _ _ _ _ _ c.loop-m.invariant _ low _ _ _ c.difference.ensures c.without-left.ensures
 
 pub loop-m-preserved : goal.loop-m-preserved
 loop-m-preserved c =
-    let low = (lowest_found 128 _ _ (sym c.lowest-found.ensures ∙ c.in-At.is)).0 in
+    let low = (lowest_found 128 _ _ (sym c.lowest-found.ensures ∙ c.in-Some.is)).0 in
     let row = c.lent_row-row.ensures c.args.n c.requires.1 in
     let other = c.lent_row.ensures c.args.n (c.loop-m.invariant.on _ low).0 in
     let held = subset_is _ c.requires.0 _ _ _ c.below-roster.ensures _ _ _ _ _ other row refl c.intersection-inner.ensures c.is_subset.ensures in

@@ -1,16 +1,9 @@
 -- `checks::row_closed` meets its contract: members that are not left are covered. Assumes nothing.
-use mathlib.Core.Path.{refl, sym, ◌∙◌}
-use mathlib.Core.Bool.{true≢false, false≢true}
-use native.Mathlib.Omega.{arith}
-use borrow.Author.Tests.{not-true, not-false}
-use borrow.Author.Rules.{rules}
 use Rattle.sets.specs.Sets.{count}
 use Rattle.sets.specs.PlaceSets.{has}
-use Rattle.sets.proofs.Laws.{lowest_found, lowest_nothing}
 use Rattle.rows.specs.Rows.{history_in}
 use Rattle.answers.specs.Checks.{Covered}
-use Rattle.checks.proofs.Checks.{Turns, turns_start, turns_end, subset_is}
-use Rattle.checks.proofs.Closed.{row_open, row_less, row_goes}
+use Rattle.checks.proofs.Checks.{Turns}
 use Rattle.checks.proofs.row_closed.Given as goal
 
 abbrev pub invariant-loop-m : goal.invariant-loop-m

@@ -1,7 +1,6 @@
 -- `checks::row_recorded` meets its contract. Assumes nothing.
 use mathlib.Core.Path.{refl}
 use native.Mathlib.Omega.{arith}
-use borrow.Author.Rules.{rules}
 use Rattle.checks.proofs.Checks.{row_is, same_is}
 use Rattle.checks.proofs.row_recorded.Goals as goal
 

@@ -1,5 +1,4 @@
 -- `checks::spared_by` meets its contract. Assumes nothing.
-use borrow.Author.Rules.{rules}
 use Rattle.checks.proofs.Checks.{all_spared, none_spared}
 use Rattle.checks.proofs.spared_by.Goals as goal
 

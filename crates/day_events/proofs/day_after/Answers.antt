@@ -1,6 +1,5 @@
 -- `day_events::day_after` meets its contract. Assumes nothing.
 use mathlib.Core.Path.{sym, ◌∙◌}
-use borrow.Author.Rules.{rules}
 use Rattle.executions.proofs.Days.{after_stop_lem, after_other}
 use Rattle.day_events.proofs.day_after.Goals as goal
 

@@ -1,7 +1,6 @@
 -- `day_events::fault` meets its contract. Assumes nothing.
 use mathlib.Core.Path.{◌≡◌, ◌∙◌}
 use native.Mathlib.Omega.{arith}
-use borrow.Author.Rules.{rules}
 use Rattle.day_events.proofs.Faults.{fault_stop, fault_hear, fault_unknown}
 use Rattle.day_events.proofs.fault.Goals as goal
 

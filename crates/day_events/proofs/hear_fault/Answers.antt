@@ -1,6 +1,5 @@
 -- `day_events::hear_fault` meets its contract. Assumes nothing.
 use mathlib.Core.Path.{sym, ◌∙◌}
-use borrow.Author.Rules.{rules}
 use Rattle.day_events.proofs.Faults.{hear_off, hear_other_off, hear_stopped, hear_runs, hear_free}
 use Rattle.day_events.proofs.hear_fault.Goals as goal
 

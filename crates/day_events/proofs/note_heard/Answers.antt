@@ -1,6 +1,5 @@
 -- `day_events::note_heard` meets its contract. Assumes nothing.
 use mathlib.Core.Path.{◌∙◌}
-use borrow.Author.Rules.{rules}
 use Rattle.day_events.proofs.Notes.{heard_full, heard_short}
 use Rattle.day_events.proofs.note_heard.Goals as goal
 

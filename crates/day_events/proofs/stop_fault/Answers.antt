@@ -1,6 +1,5 @@
 -- `day_events::stop_fault` meets its contract. Assumes nothing.
 use mathlib.Core.Path.{sym, ◌∙◌}
-use borrow.Author.Rules.{rules}
 use Rattle.day_events.proofs.Faults.{stop_off, stop_stopped, stop_free}
 use Rattle.day_events.proofs.stop_fault.Goals as goal
 

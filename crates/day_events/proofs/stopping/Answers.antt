@@ -1,6 +1,5 @@
 -- `day_events::stopping` meets its contract. Assumes nothing.
 use native.Mathlib.Omega.{arith}
-use borrow.Author.Rules.{rules}
 use Rattle.executions.proofs.Gives.{stopping_is}
 use Rattle.day_events.proofs.stopping.Goals as goal
 

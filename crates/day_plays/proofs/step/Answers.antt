@@ -1,10 +1,10 @@
 -- `day_plays::step` meets its contract. Assumes nothing.
-use borrow.Author.Rules.{rules}
+use mathlib.Core.Path.{sym, ◌∙◌}
 use Rattle.executions.proofs.Gives.{stepped_refused, stepped_on}
 use Rattle.day_plays.proofs.step.Goals as goal
 
-pub returns-then-p-ne0 : goal.returns-then-p-ne0
-returns-then-p-ne0 c = stepped_refused _ _ c.if-p-ne0.true
+pub returns-then-is_err : goal.returns-then-is_err
+returns-then-is_err c = stepped_refused _ _ (sym c.is_err.ensures.value ∙ c.if-is_err.true)
 
 pub returns : goal.returns
-returns c = stepped_on _ _ _ _ c.if-p-ne0.false c.happen-next.ensures c.counted.ensures
+returns c = stepped_on _ _ _ _ (sym c.is_err.ensures.value ∙ c.if-is_err.false) c.happen-next.ensures c.counted.ensures

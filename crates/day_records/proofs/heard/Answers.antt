@@ -1,5 +1,4 @@
 -- `day_records::heard` meets its contract. Assumes nothing.
-use borrow.Author.Rules.{rules}
 use Rattle.day_records.proofs.Writes.{heard_is}
 use Rattle.day_records.proofs.heard.Goals as goal
 

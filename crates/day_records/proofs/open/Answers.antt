@@ -1,7 +1,6 @@
 -- `day_records::open` meets its contract. Assumes nothing.
-use mathlib.Core.Path.{◌≡◌, ◌∙◌}
+use mathlib.Core.Path.{◌∙◌}
 use native.Mathlib.Omega.{arith}
-use borrow.Author.Rules.{rules}
 use Rattle.executions.proofs.Gives.{begun_full, begun_short, begun_unknown}
 use Rattle.day_records.proofs.open.Goals as goal
 use Rattle.day_records.proofs.open.Goals.{in-0-1, in_default-1}

@@ -1,5 +1,4 @@
 -- `day_records::unbegun` meets its contract. Assumes nothing.
-use borrow.Author.Rules.{rules}
 use Rattle.executions.proofs.Gives.{unbegun_is}
 use Rattle.day_records.proofs.unbegun.Goals as goal
 

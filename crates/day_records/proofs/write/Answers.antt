@@ -4,7 +4,6 @@ use native.Mathlib.Omega.{arith}
 use lib.ListN.{length}
 use lib.Seq.{length-take-le}
 use borrow.Author.Rules.{rules}
-use borrow.Author.Tests.{not-true, not-false}
 use Rattle.day_records.proofs.Writes.{write_off, write_runs, write_done}
 use Rattle.day_records.proofs.write.Goals as goal
 

@@ -7,4 +7,4 @@ pub returns-in_default : goal.returns-in_default
 returns-in_default c = own_lost _ _ _ _ _ _ _ c.locate.ensures c.in_default.is
 
 pub returns : goal.returns
-returns c = own_found _ _ _ _ _ _ _ c.locate.ensures _ c.in-At.is
+returns c = own_found _ _ _ _ _ _ _ c.locate.ensures _ c.in-Some.is

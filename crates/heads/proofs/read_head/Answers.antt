@@ -1,23 +1,23 @@
--- `records::read_head` meets its contract. Assumes nothing.
-use mathlib.Core.Path.{◌≡◌, ◌∙◌}
-use Prim.Native.Nat.{◌+◌}
-use native.Mathlib.Omega.{arith}
-use borrow.Author.Rules.{rules}
+-- `heads::read_head` meets its contract. Assumes nothing.
+use Rattle.std.proofs.Common.{◌≡◌, ◌∙◌, ◌+◌, arith}
+use Rattle.refusals.proofs.Outcomes.{passed}
 use Rattle.layouts.specs.Parts.{owner_of, head_of}
 use Rattle.heads.proofs.read_head.Goals as goal
 
+pub returns-in_err-owner : goal.returns-in_err-owner
+unfolding owner_of head_of
+returns-in_err-owner c =
+    let p = passed _ _ c.from_residual.ensures.1 in
+    record { bytes_value = c.read_owner.ensures.by_index _ ∙ rw (c.in_err-owner.was, p); head_in = rw p tt }
+
 pub overflow_add-at : goal.overflow_add-at
 overflow_add-at c =
-    let w = rw c.in-Of.is at c.read_owner.ensures.owner_in in
+    let w = rw c.in_ok-owner.was at c.read_owner.ensures.owner_in in
     omega (arith, w)
 
-pub returns-in-Refused : goal.returns-in-Refused
-unfolding owner_of head_of
-returns-in-Refused c = record { bytes_value = c.read_owner.ensures.by_index _ ∙ rw c.in-Refused.is; head_in = tt }
-
-pub returns-in-Of : goal.returns-in-Of
+pub returns : goal.returns
 unfolding owner_of
-returns-in-Of c =
+returns c =
     let a = c.args in
     let e : a.at + 5 + 1 ≡ a.at + 6 = omega arith in
-    record { bytes_value = c.read_owner.ensures.by_index _ ∙ rw c.in-Of.is c.head_roster.ensures.bytes_value; head_in = rw e at c.head_roster.ensures.head_in }
+    record { bytes_value = c.read_owner.ensures.by_index _ ∙ rw c.in_ok-owner.was c.head_roster.ensures.bytes_value; head_in = rw e at c.head_roster.ensures.head_in }

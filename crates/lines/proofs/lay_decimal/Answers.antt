@@ -1,20 +1,23 @@
 -- `lines::lay_decimal` meets its contract. The invariant: what is left of the number gives the digits that are still to come. Assumes nothing.
-use mathlib.Core.Path.{◌≡◌, refl}
-use Prim.Native.Nat.{◌-◌, ◌≤◌}
+use mathlib.Core.Path.{◌≡◌}
+use Prim.Native.Nat.{◌+◌, ◌-◌, ◌<◌}
 use native.Mathlib.Omega.{arith}
-use lib.ListN.{length, length-set}
-use borrow.Author.Rules.{rules}
-use Rattle.transcripts.specs.Lines.{decimal}
-use Rattle.layouts.specs.Fronts.{front}
-use Rattle.transcripts.proofs.Laws.{Laying, laying_none, laying_more, laying_all}
+use lib.ListN.{length}
+use Rattle.transcripts.proofs.Laws.{laying_none, laying_more, laying_all}
 use Rattle.lines.proofs.lay_decimal.Goals as goal
 
-pub loop-i-init : goal.loop-i-init
-loop-i-init c = (search rules, refl, laying_none c.args.number c.args.out.now c.args.count (search rules))
+pub loop-place-init : goal.loop-place-init
+loop-place-init c = laying_none c.args.number c.args.out.now c.args.count c.requires.count_value
 
-pub loop-i-preserved : goal.loop-i-preserved
-loop-i-preserved c =
-    (search rules, simp length-set c.loop-i.invariant.1, laying_more _ c.loop-i.out c.loop-i.left c.args.count c.loop-i.i c.loop-i.invariant.2 (search rules) (omega arith))
+pub loop-place-preserved : goal.loop-place-preserved
+loop-place-preserved c =
+    let l = c.loop-place in
+    let e : l.place ≡ l.place - 1 + 1 = omega arith in
+    let h : l.place - 1 < length l.out = omega arith in
+    laying_more _ l.out l.left (l.place - 1) (rw e at l.invariant) h
 
 pub returns : goal.returns
-returns c = laying_all _ c.loop-i.out c.loop-i.left c.args.count c.loop-i.i c.loop-i.invariant.2 (search rules)
+returns c =
+    let l = c.loop-place in
+    let e : l.place ≡ 0 = omega arith in
+    laying_all _ l.out l.left (rw e at l.invariant)

@@ -1,5 +1,4 @@
 -- `lines::put_none` meets its contract. The literal is the definition's text. Assumes nothing.
-use borrow.Author.Rules.{rules}
 use Rattle.transcripts.specs.Lines.{none_line, ascii}
 use Rattle.lines.proofs.put_none.Goals as goal
 

@@ -3,7 +3,6 @@ use mathlib.Core.List.{◌++◌}
 use Prim.Native.Nat.{◌+◌}
 use native.Mathlib.Omega.{arith}
 use lib.ListN.{length}
-use borrow.Author.Rules.{rules}
 use Rattle.transcripts.specs.Lines.{decimal, line}
 use Rattle.transcripts.proofs.Laws.{length_numbered, put_refused, put_laid}
 use Rattle.lines.proofs.put_numbered.Goals as goal

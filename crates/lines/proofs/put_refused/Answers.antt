@@ -3,9 +3,11 @@ use mathlib.Core.Path.{◌≡◌, refl, sym, ap, ◌∙◌}
 use mathlib.Core.List.{List, ◌++◌}
 use Prim.Native.Nat.{ℕ, ◌+◌, ◌<◌, ◌≤◌}
 use native.Mathlib.Omega.{arith}
-use lib.ListN.{length, take, drop, length-take, length-drop}
+use lib.ListN.{length, take, length-take}
 use borrow.Rule.Slice.PartMut.{put_mid}
 use borrow.Author.Rules.{rules}
+use Rattle.refusals.specs.Numbers.{number}
+use Rattle.refusals.proofs.Numbers.{as_numbered}
 use Rattle.layouts.specs.Fronts.{front}
 use Rattle.transcripts.specs.Lines.{ascii, decimal}
 use Rattle.transcripts.proofs.Laws.{front_parted, decimal_byte}
@@ -16,37 +18,32 @@ few : (j k : ℕ) → j < 256 → k ≡ length (decimal j) → k ≤ 3
 few j k h e = let l : length (decimal j) ≤ 3 = decimal_byte j h in omega arith
 
 -- the bytes that the tail's front holds, and how many they are
-tail_is : (j k : ℕ) (l t d : List ℕ) → k ≡ length (decimal j) → t ≡ front (ascii " refused ") l → length t ≡ 12 → d ≡ front (decimal j) (take 3 (drop 9 t))
-    → take (9 + k) (put_mid 9 3 t d) ≡ ascii " refused " ++ decimal j
-unfolding ascii
-tail_is j k l t d e laid size put = ap (λ (z : ℕ). take (9 + z) (put_mid 9 3 t d)) e ∙ front_parted _ l t 9 3 laid refl size (decimal j) d put
+tail_is : (j k : ℕ) (d : List ℕ) → k ≡ length (decimal j) → d ≡ front (decimal j) (ascii "000") → take (9 + k) (put_mid 9 3 (ascii " refused 000") d) ≡ ascii " refused " ++ decimal j
+unfolding ascii front
+tail_is j k d e put =
+    ap (λ (z : ℕ). take (9 + z) (put_mid 9 3 (ascii " refused 000") d)) e ∙ front_parted (ascii " refused ") (ascii " refused 000") (ascii " refused 000") 9 3 refl refl refl (decimal j) d put
 
-tail_length : (j k : ℕ) (l t d : List ℕ) → k ≡ length (decimal j) → t ≡ front (ascii " refused ") l → length t ≡ 12 → d ≡ front (decimal j) (take 3 (drop 9 t))
-    → length (take (9 + k) (put_mid 9 3 t d)) ≡ 9 + k
+tail_length : (j k : ℕ) (d : List ℕ) → k ≡ length (decimal j) → d ≡ front (decimal j) (ascii "000") → length (take (9 + k) (put_mid 9 3 (ascii " refused 000") d)) ≡ 9 + k
 unfolding ascii
-tail_length j k l t d e laid size put = ap length (tail_is j k l t d e laid size put) ∙ omega (arith, e)
+tail_length j k d e put = ap length (tail_is j k d e put) ∙ omega (arith, e)
 
-pub lay_decimal-requires : goal.lay_decimal-requires
-lay_decimal-requires c = record { count_value = c.count_digits-count.ensures.value; count_in_bounds = simp (length-take, length-drop) (omega (arith, few _ _ (search rules) c.count_digits-count.ensures.value, c.lay_text.auto.out)) }
+pub lay_decimal-requires-clause-count_in_bounds : goal.lay_decimal-requires-clause-count_in_bounds
+lay_decimal-requires-clause-count_in_bounds c = few _ _ (search rules) c.count_digits-count.ensures.value
 
 pub slice_bounds-tail-end-2 : goal.slice_bounds-tail-end-2
 unfolding ascii
 slice_bounds-tail-end-2 c =
-    let end = 9 + c.count_digits-count.result in
-    let all = put_mid 9 3 c.lay_text.new.out c.lay_decimal.new.out in
-    omega (arith, tail_length _ _ _ _ _ c.count_digits-count.ensures.value c.lay_text.ensures c.lay_text.auto.out c.lay_decimal.ensures, length-take end all)
+    omega (arith, tail_length _ _ _ c.count_digits-count.ensures.value c.lay_decimal.ensures, length-take (9 + c.count_digits-count.result) (put_mid 9 3 (ascii " refused 000") c.lay_decimal.new.out))
 
 pub slice_bounds-put_numbered-end : goal.slice_bounds-put_numbered-end
 unfolding ascii
-slice_bounds-put_numbered-end c = sym (tail_length _ _ _ _ _ c.count_digits-count.ensures.value c.lay_text.ensures c.lay_text.auto.out c.lay_decimal.ensures)
-
-pub put_numbered-requires : goal.put_numbered-requires
-unfolding ascii
-put_numbered-requires c =
-    record { head_len_bound = c.requires; tail_len_bound = omega (arith, tail_length _ _ _ _ _ c.count_digits-count.ensures.value c.lay_text.ensures c.lay_text.auto.out c.lay_decimal.ensures, few _ _ (search rules) c.count_digits-count.ensures.value) }
+slice_bounds-put_numbered-end c = sym (tail_length _ _ _ c.count_digits-count.ensures.value c.lay_decimal.ensures)
 
 pub returns : goal.returns
 unfolding ascii
 returns c =
-    let t = tail_is _ _ _ _ _ c.count_digits-count.ensures.value c.lay_text.ensures c.lay_text.auto.out c.lay_decimal.ensures in
+    let j = number c.args.refusal in
+    let e = as_numbered c.args.refusal in
+    let n : c.count_digits-count.result ≡ length (decimal j) = c.count_digits-count.ensures.value ∙ ap (λ (k : ℕ). length (decimal k)) e in
+    let t = tail_is j _ _ n (c.lay_decimal.ensures ∙ ap (λ (k : ℕ). front (decimal k) (ascii "000")) e) in
     record { value = rw t at c.put_numbered.ensures.value; out_after = rw t at c.put_numbered.ensures.out_after }

@@ -3,7 +3,6 @@ use mathlib.Core.Path.{sym}
 use Prim.Native.Nat.{◌+◌}
 use native.Mathlib.Omega.{arith}
 use lib.ListN.{length}
-use borrow.Author.Rules.{rules}
 use Rattle.transcripts.specs.Lines.{line}
 use Rattle.transcripts.proofs.Laws.{length_line, put_refused, put_laid}
 use Rattle.lines.proofs.put_text.Goals as goal

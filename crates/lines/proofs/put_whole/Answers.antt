@@ -1,5 +1,4 @@
 -- `lines::put_whole` meets its contract. Each arm's literal is the definition's text. Assumes nothing.
-use borrow.Author.Rules.{rules}
 use Rattle.transcripts.specs.Lines.{whole_line, ascii}
 use Rattle.lines.proofs.put_whole.Goals as goal
 

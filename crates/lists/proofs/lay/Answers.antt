@@ -2,7 +2,6 @@
 use mathlib.Core.Path.{◌≡◌}
 use Prim.Native.Nat.{◌+◌, ◌-◌}
 use native.Mathlib.Omega.{arith}
-use borrow.Author.Rules.{rules}
 use Rattle.sets.specs.PlaceSets.{bit, has}
 use Rattle.answers.specs.Lists.{byte_by}
 use Rattle.answers.proofs.Laying.{laid_same, laid_on, byte_low, byte_high}

@@ -1,6 +1,5 @@
 -- `lists::list` meets its contract. Assumes nothing.
 use native.Mathlib.Omega.{arith}
-use borrow.Author.Rules.{rules}
 use Rattle.answers.proofs.Lists.{list_short, list_done}
 use Rattle.lists.proofs.list.Goals as goal
 

@@ -12,8 +12,8 @@ returns-in_default c = sym (counts_other _ _ _ (found_lacks _ _ _ c.find.ensures
 
 pub returns-then-firsts-p : goal.returns-then-firsts-p
 returns-then-firsts-p c =
-    sym (counts_past _ _ _ c.if-serial-eq0.false _ c.find.ensures _ c.in-At.is c.if-firsts-p.true)
+    sym (counts_past _ _ _ c.if-serial-eq0.false _ c.find.ensures _ c.in-Some.is c.if-firsts-p.true)
 
 pub returns : goal.returns
 returns c =
-    sym (counts_there _ _ _ c.if-serial-eq0.false _ c.find.ensures _ c.in-At.is)
+    sym (counts_there _ _ _ c.if-serial-eq0.false _ c.find.ensures _ c.in-Some.is)

@@ -1,14 +1,11 @@
 -- `lookups::find_from` meets its contract. The invariant: looking from i on finds what looking from `from` on finds.
 -- Assumes nothing.
-use mathlib.Core.Path.{refl, sym, ap, ◌∙◌}
+use mathlib.Core.Path.{sym, ap, ◌∙◌}
 use native.Mathlib.Omega.{arith}
 use lib.ListN.{length}
 use Rattle.sets.specs.PlaceSets.{found}
 use Rattle.serials.proofs.Rosters.{from_hit, from_miss, from_past, found_here}
 use Rattle.lookups.proofs.find_from.Goals as goal
-
-pub loop-i-init : goal.loop-i-init
-loop-i-init c = refl
 
 pub returns-then-roster-i : goal.returns-then-roster-i
 returns-then-roster-i c =

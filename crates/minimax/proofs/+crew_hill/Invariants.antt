@@ -1,9 +1,7 @@
 -- `crew` and `hill` call one another: each call has fewer places absent, or is the hill's after the crew's. The crew's loop keeps the least of the places that it looked
 -- at, the hill's the greatest of the records that it tried. Assumes nothing.
 use mathlib.Core.Path.{◌≡◌}
-use Prim.Native.Nat.{◌*◌, ◌-◌, ◌≤◌}
-use Rattle.sets.specs.Sets.{count}
-use Rattle.sets.specs.PlaceSets.{has}
+use Prim.Native.Nat.{◌*◌, ◌-◌}
 use Rattle.games.specs.Games.{absent_count, greatest}
 use Rattle.games.proofs.Turns.{Choosing, lasts}
 use Rattle.minimax.proofs.+crew_hill.Given as goal
@@ -15,13 +13,7 @@ abbrev pub decreases-hill : goal.decreases-hill
 decreases-hill l = 2 * absent_count l.r - 1
 
 abbrev pub invariant-crew-loop-p : goal.invariant-crew-loop-p
-invariant-crew-loop-p l = Choosing l.r l.left l.best
-
-abbrev pub decreases-crew-loop-p : goal.decreases-crew-loop-p
-decreases-crew-loop-p l = count 128 (has l.left)
+invariant-crew-loop-p l = Choosing l.r l.p-iterator.left l.best
 
 abbrev pub invariant-hill-loop-number : goal.invariant-hill-loop-number
-invariant-hill-loop-number l = (l.number ≤ l.numbers) × (l.most ≡ greatest l.number (lasts l.r l.place.0))
-
-abbrev pub decreases-hill-loop-number : goal.decreases-hill-loop-number
-decreases-hill-loop-number l = l.numbers - l.number
+invariant-hill-loop-number l = l.most ≡ greatest l.number (lasts l.r l.place.0)

@@ -1,6 +1,5 @@
 -- `minimax::absent` meets its contract. Assumes nothing.
 use Rattle.minimax.proofs.Handing.{absent_is}
-use borrow.Author.Rules.{rules}
 use Rattle.minimax.proofs.absent.Goals as goal
 
 pub returns : goal.returns

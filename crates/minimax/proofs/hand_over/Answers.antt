@@ -1,4 +1,5 @@
 -- `minimax::hand_over` meets its contract. Assumes nothing.
+use Rattle.std.specs.Prelude.{Option, Some, None, Result, Ok, Err}
 use mathlib.Core.Path.{◌≡◌, refl, sym}
 use native.Mathlib.Omega.{arith}
 use lib.ListN.{length}
@@ -34,7 +35,7 @@ slice_bounds-bytes-end c =
     let l : length args.r.serials ≡ 128 = search rules in
     let long = sym (length-take-le _ _ (omega (arith, c.size-n.ensures.upper_bound))) in
     end_inside args.r args.place.0 args.number c.requires.r_bound c.requires.place_bound _ c.size-n.ensures.value long
-    (search rules) _ c.kind_numbered-kind.ensures _ refl _ _ (c.write-done.ensures.value, c.write-done.ensures.out_after) _ c.in-Next.is
+    (search rules) _ c.kind_numbered-kind.ensures _ refl _ _ (c.write-done.ensures.value, c.write-done.ensures.out_after) _ c.in-Ok.is
 
 pub slice_bounds-offer-end : goal.slice_bounds-offer-end
 unfolding size_of
@@ -43,7 +44,7 @@ slice_bounds-offer-end c =
     let l : length args.r.serials ≡ 128 = search rules in
     let long = sym (length-take-le _ _ (omega (arith, c.size-n.ensures.upper_bound))) in
     let inside = end_inside args.r args.place.0 args.number c.requires.r_bound c.requires.place_bound _ c.size-n.ensures.value long
-    (search rules) _ c.kind_numbered-kind.ensures _ refl _ _ (c.write-done.ensures.value, c.write-done.ensures.out_after) _ c.in-Next.is in
+    (search rules) _ c.kind_numbered-kind.ensures _ refl _ _ (c.write-done.ensures.value, c.write-done.ensures.out_after) _ c.in-Ok.is in
     sym (length-take-le _ _ inside)
 
 pub returns : goal.returns
@@ -53,4 +54,4 @@ returns c =
     let l : length args.r.serials ≡ 128 = search rules in
     let long = sym (length-take-le _ _ (omega (arith, c.size-n.ensures.upper_bound))) in
     handed_is args.r args.place.0 args.number c.requires.r_bound c.requires.place_bound _ c.size-n.ensures.value long
-    (search rules) _ c.kind_numbered-kind.ensures _ refl _ _ (c.write-done.ensures.value, c.write-done.ensures.out_after) _ c.in-Next.is _ c.offer.ensures
+    (search rules) _ c.kind_numbered-kind.ensures _ refl _ _ (c.write-done.ensures.value, c.write-done.ensures.out_after) _ c.in-Ok.is _ c.offer.ensures

@@ -2,7 +2,6 @@
 use native.Mathlib.Omega.{arith}
 use Rattle.calls.specs.Promises.{size_of}
 use Rattle.games.proofs.Turns.{played_large, played_small}
-use borrow.Author.Rules.{rules}
 use Rattle.minimax.proofs.play.Goals as goal
 
 pub returns-then-n-gt4 : goal.returns-then-n-gt4

@@ -5,8 +5,5 @@ use Rattle.sets.specs.Sets.{count}
 use Rattle.sets.specs.PlaceSets.{has}
 use Rattle.places_tests.proofs.tally.Given as goal
 
-abbrev pub invariant-loop-p : goal.invariant-loop-p
-invariant-loop-p l = l.n + count 128 (has l.left) ≡ count 128 (has l.initial.left)
-
-abbrev pub decreases-loop-p : goal.decreases-loop-p
-decreases-loop-p l = count 128 (has l.left)
+abbrev pub invariant-loop : goal.invariant-loop
+invariant-loop l = l.n + count 128 (has l.iterator'.left) ≡ count 128 (has l.fn.s)

@@ -1,8 +1,6 @@
 -- `records::is_like` meets its contract. Assumes nothing.
 use mathlib.Core.Path.{refl, sym, ◌∙◌}
 use native.Mathlib.Omega.{arith}
-use borrow.Author.Rules.{rules}
-use borrow.Author.Tests.{not-false}
 use Rattle.sets.proofs.Booleans.{clash}
 use Rattle.layouts.proofs.Judging.{like_is}
 use Rattle.readings.proofs.is_like.Goals as goal

@@ -1,7 +1,7 @@
 -- `records::read_tail` meets its contract: one law for each answer. Assumes nothing.
+use Rattle.std.specs.Prelude.{Option, Some, None, Result, Ok, Err}
 use mathlib.Core.Path.{◌∙◌}
-use native.Mathlib.Omega.{arith}
-use borrow.Author.Rules.{rules}
+use Rattle.refusals.proofs.Outcomes.{passed}
 use Rattle.layouts.specs.Parts.{mourned_of, tail_of}
 use Rattle.readings.proofs.Mournings.{mourned_early, mourned_many, mourned_counted}
 use Rattle.readings.proofs.read_tail.Goals as goal
@@ -14,11 +14,13 @@ pub returns-then-roster-m : goal.returns-then-roster-m
 unfolding tail_of
 returns-then-roster-m c = record { bytes_value = mourned_many _ _ _ _ c.if-bytes-at.false c.if-roster-m.true; tail_in = tt }
 
-pub returns-in-Refused : goal.returns-in-Refused
+pub returns-in_err-mourned : goal.returns-in_err-mourned
 unfolding tail_of mourned_of
-returns-in-Refused c = record { bytes_value = mourned_counted _ _ _ _ c.if-bytes-at.false c.if-roster-m.false ∙ c.read_mourned.ensures.bytes_value ∙ rw c.in-Refused.is; tail_in = tt }
+returns-in_err-mourned c =
+    let p = passed _ _ c.from_residual.ensures.1 in
+    record { bytes_value = mourned_counted _ _ _ _ c.if-bytes-at.false c.if-roster-m.false ∙ c.read_mourned.ensures.bytes_value ∙ rw (c.in_err-mourned.was, p); tail_in = rw p tt }
 
-pub returns-in-Set : goal.returns-in-Set
+pub returns : goal.returns
 unfolding tail_of mourned_of
-returns-in-Set c =
-    record { bytes_value = mourned_counted _ _ _ _ c.if-bytes-at.false c.if-roster-m.false ∙ c.read_mourned.ensures.bytes_value ∙ rw c.in-Set.is; tail_in = rw c.in-Set.is at c.read_mourned.ensures.mourned_in }
+returns c =
+    record { bytes_value = mourned_counted _ _ _ _ c.if-bytes-at.false c.if-roster-m.false ∙ c.read_mourned.ensures.bytes_value ∙ rw c.in_ok-mourned.was; tail_in = rw c.in_ok-mourned.was at c.read_mourned.ensures.mourned_in }

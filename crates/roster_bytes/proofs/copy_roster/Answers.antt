@@ -1,5 +1,10 @@
 -- `roster_bytes::copy_roster` meets its contract: one law for each answer. Assumes nothing.
-use mathlib.Core.Path.{sym, ◌∙◌}
+use mathlib.Core.Path.{◌≡◌, sym, ap, ◌∙◌}
+use mathlib.Core.List.{List, ◌++◌}
+use Prim.Native.Nat.{ℕ}
+use lib.ListN.{length, take, drop}
+use lib.Seq.{length-take-le}
+use Rattle.layouts.specs.Records.{serials}
 use native.Mathlib.Omega.{arith}
 use borrow.Author.Rules.{rules}
 use Rattle.layouts.proofs.Lists.{there_fits, copy_not_there, copy_too_many, copy_done}
@@ -15,8 +20,15 @@ returns-then-count-gt128 c =
 
 pub decode-requires : goal.decode-requires
 decode-requires c =
+    let a = c.args in
     let t = there_fits _ _ _ (sym c.all_there.ensures ∙ c.if-not-all_there.false) in
-    record { n_in_bounds = t; n_in_bounds_2 = search rules }
+    rw (length-take-le a.count a.list.now (search rules)) t
 
 pub returns : goal.returns
-returns c = record { value = (copy_done _ _ _ _ (sym c.all_there.ensures ∙ c.if-not-all_there.false) c.if-count-gt128.false _ c.decode.ensures).0; list_after = (copy_done _ _ _ _ (sym c.all_there.ensures ∙ c.if-not-all_there.false) c.if-count-gt128.false _ c.decode.ensures).1 }
+returns c =
+    let a = c.args in
+    let n = a.count in
+    let k : length (take n a.list.now) ≡ n = length-take-le n a.list.now (search rules) in
+    let e : c.decode.new.list ++ drop n a.list.now ≡ serials n (drop a.at a.bytes.now) ++ drop n a.list.now = ap (λ (l : List ℕ). l ++ drop n a.list.now) (rw k at c.decode.ensures) in
+    let w = copy_done a.bytes.now a.at n a.list.now (sym c.all_there.ensures ∙ c.if-not-all_there.false) c.if-count-gt128.false _ e in
+    record { value = w.0; list_after = w.1 }

@@ -1,22 +1,17 @@
--- `records::roster_fault` meets its contract: one law for each answer. Assumes nothing.
-use mathlib.Core.Path.{sym, ◌∙◌}
-use mathlib.Core.List.{[]}
-use native.Mathlib.Omega.{arith}
-use lib.Seq.{length-take-le}
-use Rattle.layouts.proofs.Judging.{fault_there, fault_1, fault_0}
+-- `roster_bytes::roster_fault` meets its contract: one law for each answer. Assumes nothing.
+use Rattle.std.proofs.Common.{sym, ◌∙◌, [], arith}
+use Rattle.refusals.proofs.Outcomes.{passed}
+use Rattle.layouts.proofs.Judging.{fault_there, fault_cut, fault_none_there}
 use Rattle.roster_bytes.proofs.roster_fault.Goals as goal
 
-pub slice_bounds-first_fault-end : goal.slice_bounds-first_fault-end
-slice_bounds-first_fault-end c = sym (length-take-le _ _ c.requires)
+pub returns-in_err-first_fault : goal.returns-in_err-first_fault
+returns-in_err-first_fault c =
+    passed _ _ c.from_residual.ensures.1 ∙ sym (fault_there _ [] _ _ (sym c.first_fault.ensures ∙ c.in_err-first_fault.was))
 
-pub returns-then-first-ne0 : goal.returns-then-first-ne0
-returns-then-first-ne0 c =
-    c.first_fault-first.ensures ∙ sym (fault_there _ [] _ (λ z. c.if-first-ne0.true (c.first_fault-first.ensures ∙ z)))
-
-pub returns-then-m-count : goal.returns-then-m-count
-returns-then-m-count c =
-    sym (fault_1 _ [] _ (sym c.first_fault-first.ensures ∙ c.if-first-ne0.false) (omega (arith, length-take-le c.args.m c.args.list.now c.requires)))
+pub returns-then-list-count : goal.returns-then-list-count
+returns-then-list-count c =
+    sym (fault_cut _ [] _ (sym c.first_fault.ensures ∙ c.in_ok-first_fault.was) (omega arith))
 
 pub returns : goal.returns
 returns c =
-    sym (fault_0 _ [] _ (sym c.first_fault-first.ensures ∙ c.if-first-ne0.false) (omega (arith, length-take-le c.args.m c.args.list.now c.requires)))
+    sym (fault_none_there _ [] _ (sym c.first_fault.ensures ∙ c.in_ok-first_fault.was) (omega arith))

@@ -1,30 +1,12 @@
 -- `row_bytes::put_word` meets its contract. Assumes nothing.
+use mathlib.Core.Path.{sym, ◌∙◌}
+use lib.Seq.{sets-eq}
+use Rattle.std.proofs.Common.{w64}
+use Rattle.std.specs.Int.{to_le_bytes}
 use Rattle.rows.proofs.Bytes.{word_laid}
-use native.Mathlib.Omega.{arith}
-use lib.ListN.{length-set}
-use borrow.Author.Rules.{rules}
 use Rattle.row_bytes.proofs.put_word.Goals as goal
 
-pub bounds-out-1 : goal.bounds-out-1
-bounds-out-1 c = simp length-set (omega arith)
-
-pub bounds-out-2 : goal.bounds-out-2
-bounds-out-2 c = simp length-set (omega arith)
-
-pub bounds-out-3 : goal.bounds-out-3
-bounds-out-3 c = simp length-set (omega arith)
-
-pub bounds-out-4 : goal.bounds-out-4
-bounds-out-4 c = simp length-set (omega arith)
-
-pub bounds-out-5 : goal.bounds-out-5
-bounds-out-5 c = simp length-set (omega arith)
-
-pub bounds-out-6 : goal.bounds-out-6
-bounds-out-6 c = simp length-set (omega arith)
-
-pub bounds-out-7 : goal.bounds-out-7
-bounds-out-7 c = simp length-set (omega arith)
-
 pub returns : goal.returns
-returns c = word_laid c.args.out.now c.args.x (search rules)
+returns c =
+    let a = c.args in
+    rw (c.copy_from_slice.ensures.after, c.to_le_bytes.ensures) (sym (sets-eq (to_le_bytes w64 a.x) a.out.now 0 c.requires) ∙ word_laid a.out.now a.x c.requires)

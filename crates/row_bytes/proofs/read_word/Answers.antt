@@ -5,4 +5,4 @@ use Rattle.row_bytes.proofs.read_word.Goals as goal
 
 pub returns : goal.returns
 returns c =
-    word_read c.args.bytes.now (λ i. omega (arith, c.shared_slice_known-1.given i)) _ (omega arith)
+    word_read c.args.bytes.now (λ i. omega (arith, c.type_inv.bytes i)) _ (omega arith)

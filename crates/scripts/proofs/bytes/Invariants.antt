@@ -1,9 +1,6 @@
--- `bytes` is safe and ends: no more bytes than digits. Assumes nothing.
-use Rattle.std.proofs.Common.{◌-◌, ◌≤◌, length}
+-- `bytes` is safe: no more bytes than digits. Assumes nothing.
+use Rattle.std.proofs.Common.{◌≤◌}
 use Rattle.scripts.proofs.bytes.Given as goal
 
-abbrev pub invariant-loop-i : goal.invariant-loop-i
-invariant-loop-i l = (l.i ≤ length l.text) × (l.n ≤ l.i)
-
-abbrev pub decreases-loop-i : goal.decreases-loop-i
-decreases-loop-i l = length l.text - l.i
+abbrev pub invariant-loop-c : goal.invariant-loop-c
+invariant-loop-c l = l.n ≤ l.c-index

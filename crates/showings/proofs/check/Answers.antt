@@ -15,12 +15,7 @@ unfolding size_of
 returns-then-off_roster c =
     sym (checked_off _ refl _ (omega (arith, c.size-n.ensures.value)) (sym c.off_roster.ensures ∙ c.if-off_roster.true))
 
-pub returns-then-fits : goal.returns-then-fits
-unfolding size_of accepted_of
-returns-then-fits c =
-    sym (checked_on _ refl _ (omega (arith, c.size-n.ensures.value)) (sym c.off_roster.ensures ∙ c.if-off_roster.false) _ (sym c.fits.ensures ∙ c.if-fits.true))
-
 pub returns : goal.returns
 unfolding size_of accepted_of
 returns c =
-    sym (checked_on _ refl _ (omega (arith, c.size-n.ensures.value)) (sym c.off_roster.ensures ∙ c.if-off_roster.false) _ (sym c.fits.ensures ∙ c.if-fits.false))
+    sym (checked_on _ refl _ (omega (arith, c.size-n.ensures.value)) (sym c.off_roster.ensures ∙ c.if-off_roster.false) _ (sym c.fits.ensures))

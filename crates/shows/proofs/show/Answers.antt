@@ -24,6 +24,6 @@ returns-in_default c = record {
 
 pub show_open-requires : goal.show_open-requires
 show_open-requires c =
-    let at = blocker_at _ _ _ _ _ (size_at_most _) _ c.blockers-blocking.ensures _ c.lowest-found.ensures _ c.in-At.is in
-    let is = blocker_open _ _ _ _ _ (size_at_most _) _ c.blockers-blocking.ensures _ c.lowest-found.ensures _ c.in-At.is (sym c.contains.ensures ∙ c.if-contains.false) in
+    let at = blocker_at _ _ _ _ _ (size_at_most _) _ c.blockers-blocking.ensures _ c.lowest-found.ensures _ c.in-Some.is in
+    let is = blocker_open _ _ _ _ _ (size_at_most _) _ c.blockers-blocking.ensures _ c.lowest-found.ensures _ c.in-Some.is (sym c.contains.ensures ∙ c.if-contains.false) in
     record { place_bound = (omega (arith, c.size.ensures.value), is); blocker_value = at }

@@ -1,7 +1,5 @@
 -- `answers::all_before` meets its contract. Assumes nothing.
-use borrow.Author.Tests.{not-true, not-false}
 use Rattle.undecided.proofs.OpenPlaces.{before_impossible, before_certain, before_looked}
-use borrow.Author.Rules.{rules}
 use Rattle.undecided.proofs.all_before.Goals as goal
 
 pub returns-then-not-possible : goal.returns-then-not-possible

@@ -1,6 +1,5 @@
 -- `answers::known_with` meets its contract. Assumes nothing.
 use Rattle.undecided.proofs.OpenPlaces.{known_holds, known_lacks}
-use borrow.Author.Rules.{rules}
 use Rattle.undecided.proofs.known_with.Goals as goal
 
 pub returns-then-walked : goal.returns-then-walked

@@ -1,7 +1,5 @@
 -- `undecided::open_places` meets its contract. Assumes nothing.
-use borrow.Author.Tests.{not-true, not-false}
 use Rattle.undecided.proofs.OpenPlaces.{open_sure, open_walked}
-use borrow.Author.Rules.{rules}
 use Rattle.undecided.proofs.open_places.Goals as goal
 
 pub returns-then-not-is_empty : goal.returns-then-not-is_empty

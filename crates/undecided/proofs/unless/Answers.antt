@@ -1,6 +1,5 @@
 -- `answers::unless` meets its contract. Assumes nothing.
 use Rattle.undecided.proofs.OpenPlaces.{unless_stays, unless_goes}
-use borrow.Author.Rules.{rules}
 use Rattle.undecided.proofs.unless.Goals as goal
 
 pub returns-then-stays : goal.returns-then-stays

@@ -1,13 +1,15 @@
 -- `words::end_of` meets its contract. Assumes nothing.
+use Rattle.std.specs.Prelude.{Option, Some, None, Result, Ok, Err}
 use mathlib.Core.Path.{sym, ap}
 use borrow.Author.Rules.{rules}
+use Rattle.refusals.proofs.Numbers.{as_numbered}
 use Rattle.boundary.specs.Words.{end_of}
 use Rattle.words.proofs.end_of.Goals as goal
 
-pub returns-in-Next : goal.returns-in-Next
+pub returns-in-Ok : goal.returns-in-Ok
 unfolding end_of
-returns-in-Next c = sym (ap end_of c.in-Next.is)
+returns-in-Ok c = sym (ap end_of c.in-Ok.is)
 
-pub returns-in-Refused : goal.returns-in-Refused
+pub returns-in-Err : goal.returns-in-Err
 unfolding end_of
-returns-in-Refused c = sym (ap end_of c.in-Refused.is)
+returns-in-Err c = rw (as_numbered c.in-Err.fault) (sym (ap end_of c.in-Err.is))

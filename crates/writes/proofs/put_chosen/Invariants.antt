@@ -1,7 +1,7 @@
 -- `writes::put_chosen` meets its contract. The invariant: the bytes of those of the first i that are chosen stand at the front, p of
 -- them. Assumes nothing.
 use mathlib.Core.Path.{◌≡◌}
-use Prim.Native.Nat.{◌-◌, ◌≤◌}
+use Prim.Native.Nat.{◌≤◌}
 use lib.ListN.{length, take}
 use Rattle.sets.specs.PlaceSets.{has}
 use Rattle.layouts.specs.Layout.{serials_bytes, chosen}
@@ -10,8 +10,5 @@ use Rattle.writes.proofs.put_chosen.Given as goal
 
 abbrev pub invariant-loop-i : goal.invariant-loop-i
 invariant-loop-i l =
-    (l.i ≤ length l.roster) × (l.p ≡ length (serials_bytes (chosen (has l.set) (take l.i l.roster)))) × (l.p ≤ length l.out)
-    × (l.out ≡ front (serials_bytes (chosen (has l.set) (take l.i l.roster))) l.initial.out) × (length l.out ≡ length l.initial.out)
-
-abbrev pub decreases-loop-i : goal.decreases-loop-i
-decreases-loop-i l = length l.roster - l.i
+    (l.p ≡ length (serials_bytes (chosen (has l.set) (take l.i l.roster)))) × (l.p ≤ length l.out)
+    × (l.out ≡ front (serials_bytes (chosen (has l.set) (take l.i l.roster))) l.initial.out)

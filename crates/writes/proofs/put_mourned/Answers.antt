@@ -1,11 +1,7 @@
 -- `writes::put_mourned` meets its contract. Assumes nothing.
 use native.Mathlib.Omega.{arith}
-use lib.ListN.{length-set}
 use Rattle.writes.proofs.Laying.{section_long, section_laid}
 use Rattle.writes.proofs.put_mourned.Goals as goal
-
-pub slice_bounds-put_chosen-count : goal.slice_bounds-put_chosen-count
-slice_bounds-put_chosen-count c = simp length-set (omega arith)
 
 pub put_chosen-requires : goal.put_chosen-requires
 put_chosen-requires c =

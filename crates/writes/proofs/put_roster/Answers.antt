@@ -1,11 +1,8 @@
 -- `writes::put_roster` meets its contract. Assumes nothing.
 use native.Mathlib.Omega.{arith}
-use lib.ListN.{length, length-set}
+use lib.ListN.{length}
 use Rattle.writes.proofs.Laying.{section_long, section_laid}
 use Rattle.writes.proofs.put_roster.Goals as goal
-
-pub slice_bounds-put_serials-count : goal.slice_bounds-put_serials-count
-slice_bounds-put_serials-count c = simp length-set (omega arith)
 
 pub put_serials-requires : goal.put_serials-requires
 put_serials-requires c =

@@ -1,17 +1,13 @@
--- `writes::put_serial` meets its contract: four stores at the front. Assumes nothing.
-use native.Mathlib.Omega.{arith}
-use lib.ListN.{length-set}
+-- `writes::put_serial` meets its contract: four bytes at the front. Assumes nothing.
+use mathlib.Core.Path.{ap, ◌∙◌}
+use mathlib.Core.List.{List, ◌++◌}
+use Prim.Native.Nat.{ℕ}
+use lib.ListN.{drop}
 use Rattle.layouts.specs.Layout.{serial_bytes}
 use Rattle.layouts.specs.Fronts.{front}
-use Rattle.writes.proofs.Laying.{four}
 use Rattle.writes.proofs.put_serial.Goals as goal
-
-pub bounds-out-1 : goal.bounds-out-1
-bounds-out-1 c = simp length-set (omega arith)
-
-pub bounds-out-2 : goal.bounds-out-2
-bounds-out-2 c = simp length-set (omega arith)
 
 pub returns : goal.returns
 unfolding front serial_bytes
-returns c = four c.args.out.now _ _ _ _ (omega arith)
+returns c =
+    ap (λ (l : List ℕ). l ++ drop 4 c.args.out.now) (c.copy_from_slice.ensures.after ∙ c.to_be_bytes.ensures)

@@ -3,14 +3,10 @@ use mathlib.Core.Path.{ap, ◌∙◌}
 use mathlib.Core.List.{◌∷◌}
 use Prim.Native.Nat.{ℕ}
 use native.Mathlib.Omega.{arith}
-use lib.ListN.{length-set}
 use Rattle.layouts.specs.Layout.{serial_bytes}
 use Rattle.layouts.specs.Fronts.{front}
 use Rattle.writes.proofs.Laying.{section_long, section_laid}
 use Rattle.writes.proofs.put_top.Goals as goal
-
-pub slice_bounds-put_serial-count : goal.slice_bounds-put_serial-count
-slice_bounds-put_serial-count c = simp length-set (omega arith)
 
 pub put_serial-requires : goal.put_serial-requires
 put_serial-requires c = rw (section_long c.args.out.now c.kind_byte.result (omega arith)) (omega arith)

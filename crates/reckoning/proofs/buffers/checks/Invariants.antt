@@ -1,5 +1,5 @@
 -- `buffers::checks` is safe and ends. Assumes nothing.
-use Rattle.std.proofs.Common.{◌-◌, rules}
+use Rattle.std.proofs.Common.{◌-◌}
 use Rattle.reckoning.proofs.buffers.checks.Given as goal
 
 abbrev pub invariant-loop-k : goal.invariant-loop-k

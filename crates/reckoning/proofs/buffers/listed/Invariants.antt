@@ -1,5 +1,5 @@
 -- `buffers::listed` is safe and ends. Assumes nothing.
-use Rattle.std.proofs.Common.{◌-◌, length, rules}
+use Rattle.std.proofs.Common.{◌-◌, length}
 use Rattle.reckoning.proofs.buffers.listed.Given as goal
 
 abbrev pub invariant-loop-i : goal.invariant-loop-i

@@ -15,4 +15,4 @@ pub loop-p-preserved : goal.loop-p-preserved
 unfolding size_of
 loop-p-preserved c =
     let b = each_says _ _ _ refl c.list.ensures.out_after c.loop-p.p (omega (arith, c.size-count.ensures.value)) in
-    (search rules, subst (λ n. c.in_ok-end.end ≤ n) c.loop-p.invariant.2 (c.in_ok-end.ensures.ok _ b).inside, search rules)
+    (subst (λ n. c.in_ok-end.end ≤ n) c.loop-p.invariant.1 (c.in_ok-end.ensures.ok _ b).inside, search rules)

@@ -1,9 +1,0 @@
--- `givings::gives` is safe and ends. Assumes nothing.
-use Rattle.std.proofs.Common.{◌-◌, rules}
-use Rattle.reckoning.proofs.givings.gives.Given as goal
-
-abbrev pub invariant-loop-i : goal.invariant-loop-i
-invariant-loop-i l = Unit {0}
-
-abbrev pub decreases-loop-i : goal.decreases-loop-i
-decreases-loop-i l = l.c.n - l.i

@@ -1,9 +1,0 @@
--- `runs::asks` is safe and ends. Assumes nothing.
-use Rattle.std.proofs.Common.{◌-◌, rules}
-use Rattle.reckoning.proofs.runs.asks.Given as goal
-
-abbrev pub invariant-loop-i : goal.invariant-loop-i
-invariant-loop-i l = Unit {0}
-
-abbrev pub decreases-loop-i : goal.decreases-loop-i
-decreases-loop-i l = l.run.n - l.i

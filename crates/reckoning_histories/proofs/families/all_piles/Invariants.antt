@@ -1,9 +1,0 @@
--- `families::all_piles` is safe and ends. Assumes nothing.
-use Prim.Native.Nat.{◌-◌, ◌≤◌}
-use Rattle.reckoning_histories.proofs.families.all_piles.Given as goal
-
-abbrev pub invariant-loop-pile : goal.invariant-loop-pile
-invariant-loop-pile l = l.pile ≤ 1185921
-
-abbrev pub decreases-loop-pile : goal.decreases-loop-pile
-decreases-loop-pile l = 1185921 - l.pile

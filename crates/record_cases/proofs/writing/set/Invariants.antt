@@ -1,9 +1,0 @@
--- `set` is safe and ends. Assumes nothing.
-use Rattle.std.proofs.Common.{◌-◌, ◌≤◌}
-use Rattle.record_cases.proofs.writing.set.Given as goal
-
-abbrev pub invariant-loop-k : goal.invariant-loop-k
-invariant-loop-k l = l.k ≤ 300
-
-abbrev pub decreases-loop-k : goal.decreases-loop-k
-decreases-loop-k l = 300 - l.k

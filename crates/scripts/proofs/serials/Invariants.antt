@@ -1,9 +1,0 @@
--- `serials` is safe and ends. Assumes nothing.
-use Rattle.std.proofs.Common.{◌-◌, ◌≤◌}
-use Rattle.scripts.proofs.serials.Given as goal
-
-abbrev pub invariant-loop-i : goal.invariant-loop-i
-invariant-loop-i l = l.i ≤ 300
-
-abbrev pub decreases-loop-i : goal.decreases-loop-i
-decreases-loop-i l = 300 - l.i
