@@ -1,6 +1,7 @@
 -- The game played out lasts just as many fetches as are told; and the hill has every record that may be handed over. Assumes nothing.
 use Rattle.refusals.specs.declared.Refusal.{Refusal}
 use Rattle.refusals.specs.declared.Refusal.TheVariants as R
+use Rattle.refusals.specs.Numbers as N
 use Rattle.std.specs.Prelude.{Option, Some, None, Result, Ok, Err}
 use mathlib.Core.Path.{◌≡◌, refl, sym, ap, ap₂, ◌∙◌, subst, fun_ext}
 use mathlib.Core.Bool.{Bool, true, false, cond}
@@ -223,8 +224,8 @@ module _ {roster : List ℕ} (f : Free roster) (cs : List Call) where
       sym (played_small r (rw (is_size (good_left f cs)) few) (number (fetching_of r)) (number_is r ∙ sym (crew_is (absent_count r) r (good_left f cs) refl)))
 
   -- and on a larger one it is refused
-  pub played_17 : 4 < length roster → played (reached roster cs) ≡ Err R.TooMany
-  played_17 many = sym (played_large (reached roster cs) (rw (is_size (good_left f cs)) many))
+  pub played_17 : 4 < length roster → (played (reached roster cs) ≡ Err R.TooMany) × (N.number R.TooMany ≡ 17)
+  played_17 many = (sym (played_large (reached roster cs) (rw (is_size (good_left f cs)) many)), refl)
 
   -- whatever a fetch may hand over, the hill has a record that does just the same
   pub every_record : {p : ℕ} {bytes : List ℕ} → HandedOver (reached roster cs) p bytes
