@@ -1,17 +1,24 @@
--- `roster_bytes::same_serials` meets its contract. The invariant: `same` says whether those before i are alike. Assumes nothing.
-use mathlib.Core.Path.{sym, ap, ◌∙◌}
-use mathlib.Core.Bool.{Bool, ◌&&◌, and-true}
+-- `roster_bytes::same_serials` meets its contract. The invariant: the lists are alike where they are from this turn's on. Assumes nothing.
+use mathlib.Core.Path.{refl, sym, ◌∙◌}
+use Prim.Native.Nat.{◌+◌, ◌*◌}
 use native.Mathlib.Omega.{arith}
-use Rattle.layouts.proofs.Lists.{alike_all, alike_next, alike_done}
+use Rattle.layouts.proofs.Lists.{alike_all, alike_yes, alike_no}
+use Rattle.roster_bytes.proofs.Parts.{rest_is}
 use Rattle.roster_bytes.proofs.same_serials.Goals as goal
 
-pub loop-i-preserved : goal.loop-i-preserved
-loop-i-preserved c =
+pub returns-then-not-same_part : goal.returns-then-not-same_part
+returns-then-not-same_part c =
     let a = c.args in
-    alike_next a.bytes.now a.at a.list.now c.loop-i.i (omega arith) _ c.loop-i.same _ c.loop-i.invariant c.serial_at.ensures
+    let k = c.loop-turn.turn in
+    sym (sym (alike_all _ _ _) ∙ c.loop-turn.invariant ∙ alike_no a.bytes.now a.at a.list.now 16 (k * 16) (omega arith) _ refl _ c.same_part.ensures c.if-not-same_part.true)
+
+pub loop-turn-preserved : goal.loop-turn-preserved
+loop-turn-preserved c =
+    let a = c.args in
+    let k = c.loop-turn.turn in
+    c.loop-turn.invariant ∙ alike_yes a.bytes.now a.at a.list.now 16 (k * 16) (omega arith) _ refl _ c.same_part.ensures c.if-not-same_part.false ((k + 1) * 16) (omega arith)
 
 pub returns : goal.returns
 returns c =
     let a = c.args in
-    sym (c.loop-i.invariant ∙ ap (λ (t : Bool). c.loop-i.same && t) (alike_done a.bytes.now a.at a.list.now c.loop-i.i (omega arith)) ∙ and-true c.loop-i.same)
-    ∙ alike_all _ _ _
+    c.same_part-2.ensures ∙ rest_is a.bytes.now a.at a.list.now _ (c.loop-turn.turn * 16) (omega arith) ∙ sym c.loop-turn.invariant ∙ alike_all _ _ _
