@@ -86,8 +86,13 @@ unfoldable pub events_in : List EventNow → List Event
 events_in [] = []
 events_in (e ∷ es) = event_in e ∷ events_in es
 
+-- how a play ended as a number: 0 where all were played, else that of the refusal
+unfoldable pub play_code : Result (Unit {0}) ℕ → ℕ
+play_code (Ok u) = 0
+play_code (Err k) = k
+
 unfoldable pub played_as : DayNow → Played → PlayedNow
-played_as d p = record { count = p.count; refusal = done_code p.answer; day = day_now d p.day }
+played_as d p = record { count = p.count; refusal = play_code p.answer; day = day_now d p.day }
 
 unfoldable pub played_now : DayNow → List EventNow → PlayedNow
 played_now d es = played_as d (played (day_of d) (events_in es))

@@ -19,13 +19,13 @@ use Rattle.executions.specs.declared.Event.{Event}
 use Rattle.executions.specs.declared.Happened.{Happened}
 use Rattle.executions.specs.declared.Played.{Played}
 use Rattle.executions.specs.Executions.{fault}
-use Rattle.executions.specs.Promises.{size_of, execution_of, stopping, hearing, day_after, happened_as, happened, counted, stepped_as, stepped, played_from, played}
+use Rattle.executions.specs.Promises.{size_of, execution_of, stopping, hearing, day_after, happened_as, happened, counted_as, counted, stepped_as, stepped, played_from, played}
 use Rattle.executions.proofs.Plays.{counted_day}
 use Rattle.boundary.specs.declared.DayNow.{DayNow}
 use Rattle.boundary.specs.declared.EventNow.{EventNow}
 use Rattle.boundary.specs.declared.PlayedNow.{PlayedNow}
 use Rattle.boundary.specs.Words.{set_at}
-use Rattle.boundary.specs.Days.{kind_in, stopped_in, day_in, event_of, with_stopped, done_code, day_of, day_now, event_in, events_in, played_as, played_now, stepped_now}
+use Rattle.boundary.specs.Days.{kind_in, stopped_in, day_in, event_of, with_stopped, day_of, day_now, event_in, events_in, play_code, played_as, played_now, stepped_now}
 use Rattle.capi_days.proofs.Days.{same_head}
 
 -- ---- a kind as a byte
@@ -77,9 +77,9 @@ same_stepped : (d : Day) (p : Played) (e : Event) → Same d p.day → Same d (s
 unfolding stepped stepped_as
 same_stepped d p e s = go p.answer
   where
-    go : (a : Result (Unit {0}) Refusal) → Same d (stepped_as p e a).day
+    go : (a : Result (Unit {0}) ℕ) → Same d (stepped_as p e a).day
     go (Ok u) = rw (counted_day p.count (happened p.day e)) (same_on s (same_happened p.day e))
-    go (Err j) = s
+    go (Err k) = s
 
 -- ---- a day in its struct
 
@@ -100,14 +100,14 @@ module _ (p : PlayedNow) (e : EventNow) where
   step_refused r = rw (ne_eqb p.refusal 0 r)
 
   pub step_on : (d : Day) (k : ℕ) (q : Played) (after : DayNow) (c : ℕ) → p.refusal ≡ 0 → d ≡ day_of p.day → k ≡ cond (ltb e.kind 256) e.kind 0
-      → q ≡ stepped (record { count = p.count; answer = Ok tt; day = d }) (event_of k e.place e.other) → after ≡ day_now p.day q.day → c ≡ done_code q.answer
+      → q ≡ stepped (record { count = p.count; answer = Ok tt; day = d }) (event_of k e.place e.other) → after ≡ day_now p.day q.day → c ≡ play_code q.answer
       → record { count = q.count; refusal = c; day = after } ≡ stepped_now p e
   unfolding stepped_now stepped stepped_as played_as event_in
   step_on d k q after c r f g h i z =
       let is : q ≡ counted p.count (happened (day_of p.day) (event_of e.kind e.place e.other)) =
       h ∙ ap (λ (x : Happened). counted p.count x) (ap (λ (d : Day). happened d (event_of k e.place e.other)) f
       ∙ ap (λ (k : ℕ). happened (day_of p.day) (event_of k e.place e.other)) g ∙ byte_same (day_of p.day) e.kind e.place e.other) in
-      rw (eq-eqb p.refusal 0 r, z) (ap (λ (a : DayNow). record { count = q.count; refusal = done_code q.answer; day = a }) i ∙ ap (played_as p.day) is)
+      rw (eq-eqb p.refusal 0 r, z) (ap (λ (a : DayNow). record { count = q.count; refusal = play_code q.answer; day = a }) i ∙ ap (played_as p.day) is)
 
 -- ---- a list of events
 
@@ -115,30 +115,51 @@ unfoldable pub played_from_now : PlayedNow → List EventNow → PlayedNow
 played_from_now p [] = p
 played_from_now p (e ∷ es) = played_from_now (stepped_now p e) es
 
--- a step on what was put into a struct
-step_put : (d : DayNow) (q : Played) (e : EventNow) → Same (day_of d) q.day → stepped_now (played_as d q) e ≡ played_as d (stepped q (event_in e))
-unfolding stepped_now stepped stepped_as played_as done_code day_now with_stopped
-step_put d q e s = go q.answer
-  where
-    go : (a : Result (Unit {0}) Refusal)
-        → stepped_now (played_as d (record { count = q.count; answer = a; day = q.day })) e ≡ played_as d (stepped (record { count = q.count; answer = a; day = q.day }) (event_in e))
-    go (Ok u) = ap (λ (x : Day). played_as d (counted q.count (happened x (event_in e)))) (put_back d q.day s)
-    go (Err j) = rw (ne_eqb (number j) 0 (λ z. omega (arith, as_numbered j)))
+-- no play ends by a refusal of number 0
+abbrev NotByZero : Played → Type 0
+NotByZero q = q.answer ≡ Err 0 → ⊥
 
-from_now : (es : List EventNow) (d : DayNow) (q : Played) → Same (day_of d) q.day → played_from_now (played_as d q) es ≡ played_as d (played_from q (events_in es))
+counted_not_by_zero : (n : ℕ) (h : Happened) → NotByZero (counted n h)
+unfolding counted counted_as
+counted_not_by_zero n h = go h.answer
+  where
+    go : (a : Result (Unit {0}) Refusal) → NotByZero (counted_as n h.day a)
+    go (Ok u) z = cc
+    go (Err j) z = let n : number j ≡ 0 = cc in omega (arith, as_numbered j)
+
+stepped_not_by_zero : (q : Played) (e : Event) → NotByZero q → NotByZero (stepped q e)
+unfolding stepped stepped_as
+stepped_not_by_zero q e t = go q.answer
+  where
+    go : (a : Result (Unit {0}) ℕ) → NotByZero (stepped_as q e a)
+    go (Ok u) = counted_not_by_zero q.count (happened q.day e)
+    go (Err k) = t
+
+-- a step on what was put into a struct
+step_put : (d : DayNow) (q : Played) (e : EventNow) → Same (day_of d) q.day → NotByZero q → stepped_now (played_as d q) e ≡ played_as d (stepped q (event_in e))
+unfolding stepped_now stepped stepped_as played_as play_code day_now with_stopped
+step_put d q e s t = go q.answer t
+  where
+    go : (a : Result (Unit {0}) ℕ) → (a ≡ Err 0 → ⊥)
+        → stepped_now (played_as d (record { count = q.count; answer = a; day = q.day })) e ≡ played_as d (stepped (record { count = q.count; answer = a; day = q.day }) (event_in e))
+    go (Ok u) t = ap (λ (x : Day). played_as d (counted q.count (happened x (event_in e)))) (put_back d q.day s)
+    go (Err k) t = rw (ne_eqb k 0 (λ z. t (ap (λ (k : ℕ). Err k) z)))
+
+from_now : (es : List EventNow) (d : DayNow) (q : Played) → Same (day_of d) q.day → NotByZero q → played_from_now (played_as d q) es ≡ played_as d (played_from q (events_in es))
 unfolding played_from_now played_from events_in
-from_now [] d q s = refl
-from_now (e ∷ es) d q s =
-    ap (λ (p : PlayedNow). played_from_now p es) (step_put d q e s) ∙ from_now es d (stepped q (event_in e)) (same_stepped (day_of d) q (event_in e) s)
+from_now [] d q s t = refl
+from_now (e ∷ es) d q s t =
+    ap (λ (p : PlayedNow). played_from_now p es) (step_put d q e s t)
+    ∙ from_now es d (stepped q (event_in e)) (same_stepped (day_of d) q (event_in e) s) (stepped_not_by_zero q (event_in e) t)
 
 -- before any event
 abbrev pub start : DayNow → PlayedNow
 start d = record { count = 0; refusal = 0; day = d }
 
 pub played_is : (d : DayNow) (es : List EventNow) → length d.head ≡ 4 → played_now d es ≡ played_from_now (start d) es
-unfolding played_now played played_as done_code
+unfolding played_now played played_as play_code
 played_is d es l =
-    sym (from_now es d (record { count = 0; answer = Ok tt; day = day_of d }) (same_here (day_of d)))
+    sym (from_now es d (record { count = 0; answer = Ok tt; day = day_of d }) (same_here (day_of d)) (λ z. cc))
     ∙ ap (λ (a : DayNow). played_from_now (record { count = 0; refusal = 0; day = a }) es) (sym (same_day d l))
 
 -- the event at i is next, or all are played

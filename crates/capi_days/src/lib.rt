@@ -5,7 +5,7 @@
 ghost use Rattle.std.specs.Prelude.{◌≡◌, cond, [], ◌∷◌, get_or, ltb};
 ghost use Rattle.executions.specs.Promises as days;
 ghost use Rattle.boundary.specs.Words.{end_of};
-ghost use Rattle.boundary.specs.Days.{kind_in, stopped_in, day_in, event_of, day_head_of, with_stopped, done_code, begun_held, happened_held, day_of, day_now, played_now, stepped_now};
+ghost use Rattle.boundary.specs.Days.{kind_in, stopped_in, day_in, event_of, day_head_of, with_stopped, done_code, begun_held, happened_held, day_of, day_now, play_code, played_now, stepped_now};
 
 use boundary::{DayHead, DayNow, End, EventNow, PlayedNow};
 use executions::{Day, Event, Played};
@@ -192,6 +192,16 @@ fn day_now(d: DayNow, after: Day) -> DayNow
     }
 }
 
+// How a play ended as a number: 0 where all were played, else that of the refusal.
+fn play_code(answer: Result<(), u8>) -> u8
+    ensures { result ≡ play_code answer }
+{
+    match answer {
+        Ok(()) => 0,
+        Err(number) => number,
+    }
+}
+
 // One event after those played: after a refusal nothing more is played.
 fn day_step(p: PlayedNow, e: EventNow) -> PlayedNow
     ensures { result ≡ stepped_now p e }
@@ -217,7 +227,7 @@ fn day_step(p: PlayedNow, e: EventNow) -> PlayedNow
     let day = day_now(d, after);
     PlayedNow {
         count: played.count as u64,
-        refusal: done_code(played.answer) as u64,
+        refusal: play_code(played.answer) as u64,
         day,
     }
 }

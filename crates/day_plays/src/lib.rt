@@ -11,15 +11,18 @@ use executions::{Day, Event, Happened, Played};
 fn counted(n: usize, h: Happened) -> Played
     ensures { result ≡ contracts.counted n h }
 {
-    let count = if h.answer.is_ok() {
-        n.saturating_add(1)
-    } else {
-        n
-    };
-    Played {
-        count,
-        answer: h.answer,
-        day: h.day,
+    let day = h.day;
+    match h.answer {
+        Ok(()) => Played {
+            count: n.saturating_add(1),
+            answer: Ok(()),
+            day,
+        },
+        Err(refusal) => Played {
+            count: n,
+            answer: Err(refusal as u8),
+            day,
+        },
     }
 }
 

@@ -1,6 +1,7 @@
 -- What a day holds after a list of events is what happened in those that were played. Assumes nothing.
 use Rattle.refusals.specs.declared.Refusal.{Refusal}
 use Rattle.refusals.specs.declared.Refusal.TheVariants as R
+use Rattle.refusals.specs.Numbers.{number}
 use Rattle.std.specs.Prelude.{Ok, Err}
 use mathlib.Core.Path.{◌≡◌, refl, sym, ap, ◌∙◌, subst}
 use mathlib.Core.Bool.{true, false, cond, not, ◌&&◌}
@@ -256,15 +257,15 @@ module _ (k : Kind) (s : List ℕ) (few : length s ≤ 128) (es : List Event) (h
       kept = played_kept (kept_starting k s few) es
 
       ending : ((w.rest ≡ []) × (play.answer ≡ Ok tt)) ⊎ plays.Refuses play w.rest
-          → ((w.rest ≡ []) × (play.answer ≡ Ok tt)) ⊎ ((j : Refusal) × (play.answer ≡ Err j) × Refuses (length s) w.front w.rest j)
+          → ((w.rest ≡ []) × (play.answer ≡ Ok tt)) ⊎ ((j : Refusal) × (play.answer ≡ Err (number j)) × Refuses (length s) w.front w.rest j)
       ending (inl e) = inl e
       ending (inr r) = inr (
-        r.some.0,
-        r.some.1,
+        r.refusal,
+        r.some,
         record {
           event = r.event;
           later = r.later;
           first = r.first;
-          meets = subst (Meets (length s) w.front r.event) (fault_on_lem kept r.event ∙ r.refused ∙ r.some.1) (meets t r.event);
+          meets = subst (Meets (length s) w.front r.event) (fault_on_lem kept r.event ∙ r.refused) (meets t r.event);
         },
       )

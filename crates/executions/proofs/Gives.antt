@@ -1,7 +1,8 @@
 -- What each call gives, one law for each way in which the code returns. Assumes nothing.
 use Rattle.refusals.specs.declared.Refusal.{Refusal}
 use Rattle.refusals.specs.declared.Refusal.TheVariants as R
-use Rattle.std.specs.Prelude.{true, false, Result, Ok, Err, is_ok, is_err}
+use Rattle.refusals.specs.Numbers.{number}
+use Rattle.std.specs.Prelude.{true, false, Result, Ok, Err, is_err}
 use mathlib.Core.Path.{◌≡◌, refl, sym, ap, ◌∙◌}
 use mathlib.Core.List.{List, []}
 use Prim.Native.Nat.{ℕ, ◌+◌, ◌≤◌, ◌<◌}
@@ -96,37 +97,29 @@ happened_allowed d e r n f h g = rw g (ap (happened_as d e) (sym h ∙ f))
 
 -- ---- a list of events
 
-pub counted_refused : (n : ℕ) (h : Happened) → is_ok h.answer ≡ false → record { count = n; answer = h.answer; day = h.day } ≡ counted n h
+pub counted_refused : (n : ℕ) (h : Happened) (j : Refusal) (k : ℕ) → h.answer ≡ Err j → k ≡ number j → record { count = n; answer = Err k; day = h.day } ≡ counted n h
 unfolding counted counted_as
-counted_refused n h r = go h.answer r
-  where
-    go : (a : Result (Unit {0}) Refusal) → is_ok a ≡ false → record { count = n; answer = a; day = h.day } ≡ counted_as n h.day a
-    go (Ok u) e = cc
-    go (Err j) e = refl
+counted_refused n h j k r e = rw (r, e)
 
-pub counted_allowed : (n : ℕ) (h : Happened) (m : ℕ) → is_ok h.answer ≡ true → m ≡ one_more n → record { count = m; answer = h.answer; day = h.day } ≡ counted n h
+pub counted_allowed : (n : ℕ) (h : Happened) (m : ℕ) → h.answer ≡ Ok tt → m ≡ one_more n → record { count = m; answer = Ok tt; day = h.day } ≡ counted n h
 unfolding counted counted_as
-counted_allowed n h m r e = go h.answer r
-  where
-    go : (a : Result (Unit {0}) Refusal) → is_ok a ≡ true → record { count = m; answer = a; day = h.day } ≡ counted_as n h.day a
-    go (Ok u) z = rw e
-    go (Err j) z = cc
+counted_allowed n h m r e = rw (r, e)
 
 pub stepped_refused : (p : Played) (e : Event) → is_err p.answer ≡ true → p ≡ stepped p e
 unfolding stepped stepped_as
 stepped_refused p e r = go p.answer r
   where
-    go : (a : Result (Unit {0}) Refusal) → is_err a ≡ true → p ≡ stepped_as p e a
+    go : (a : Result (Unit {0}) ℕ) → is_err a ≡ true → p ≡ stepped_as p e a
     go (Ok u) z = cc
-    go (Err j) z = refl
+    go (Err k) z = refl
 
 pub stepped_on : (p : Played) (e : Event) (h : Happened) (s : Played) → is_err p.answer ≡ false → h ≡ happened p.day e → s ≡ counted p.count h → s ≡ stepped p e
 unfolding stepped stepped_as
 stepped_on p e h s r a b = go p.answer r
   where
-    go : (a : Result (Unit {0}) Refusal) → is_err a ≡ false → s ≡ stepped_as p e a
+    go : (a : Result (Unit {0}) ℕ) → is_err a ≡ false → s ≡ stepped_as p e a
     go (Ok u) z = b ∙ ap (counted p.count) a
-    go (Err j) z = cc
+    go (Err k) z = cc
 
 -- before any event
 abbrev pub start : Day → Played

@@ -1,5 +1,6 @@
 -- A list of events, played: what holds of the day that is left, how many are counted, and which one is refused. Assumes nothing.
 use Rattle.refusals.specs.declared.Refusal.{Refusal}
+use Rattle.refusals.specs.Numbers.{number}
 use Rattle.std.specs.Prelude.{Result, Ok, Err}
 use mathlib.Core.Path.{◌≡◌, refl, sym, ap, ap₂, ◌∙◌, subst}
 use mathlib.Core.Bool.{Bool, cond}
@@ -86,7 +87,7 @@ kept_stepped : {k : Kind} {roster : List ℕ} (p : Played) → Kept k roster p.d
 unfolding stepped stepped_as
 kept_stepped {k} {roster} p g e = go p.answer
   where
-    go : (a : Result (Unit {0}) Refusal) → Kept k roster (stepped_as p e a).day
+    go : (a : Result (Unit {0}) ℕ) → Kept k roster (stepped_as p e a).day
     go (Ok u) = subst (Kept k roster) (sym (counted_day p.count (happened p.day e))) (kept_happened g e)
     go (Err j) = g
 
@@ -106,13 +107,14 @@ pub data Plays : Day → List Event → Day → Type 0 where
   done : {d : Day} → Plays d [] d
   next : {a b : Day} {e : Event} {es : List Event} → fault_on a e ≡ Ok tt → Plays (day_after a e) es b → Plays a (e ∷ es) b
 
--- what is refused: the first of the events that are left
+-- what is refused: the first of the events that are left, by the refusal whose number is answered
 pub record Refuses (p : Played) (rest : List Event) : Type 0 where
   pub event : Event
   pub later : List Event
   pub first : rest ≡ event ∷ later
-  pub refused : fault_on p.day event ≡ p.answer
-  pub some : (j : Refusal) × (p.answer ≡ Err j)
+  pub refusal : Refusal
+  pub refused : fault_on p.day event ≡ Err refusal
+  pub some : p.answer ≡ Err (number refusal)
 
 -- how a play ends that starts with c events counted: those in front are played, and the others are none, or their first is refused
 pub record Ends (c : ℕ) (d : Day) (es : List Event) (p : Played) : Type 0 where
@@ -137,15 +139,15 @@ module _ (c : ℕ) (d : Day) (e : Event) where
       ap (counted c) (happened_allowed d e f)
       ∙ ap (λ (b : Bool). sofar (cond b (c + 1) c) (day_after d e)) (lt-ltb c (2 ^ 64 - 1) (one_more_lem (2 ^ 64) c l h))
 
-  step_refused : {j : Refusal} → fault_on d e ≡ Err j → stepped (sofar c d) e ≡ record { count = c; answer = Err j; day = d }
+  step_refused : {j : Refusal} → fault_on d e ≡ Err j → stepped (sofar c d) e ≡ record { count = c; answer = Err (number j); day = d }
   unfolding stepped stepped_as counted counted_as
   step_refused f = ap (counted c) (happened_refused d e f)
 
 -- after a refusal nothing changes
-from_refused : (p : Played) {j : Refusal} → p.answer ≡ Err j → (es : List Event) → played_from p es ≡ p
+from_refused : (p : Played) {k : ℕ} → p.answer ≡ Err k → (es : List Event) → played_from p es ≡ p
 unfolding played_from stepped stepped_as
 from_refused p r [] = refl
-from_refused p r (e ∷ es) = ap (λ (a : Result (Unit {0}) Refusal). played_from (stepped_as p e a) es) r ∙ from_refused p r es
+from_refused p r (e ∷ es) = ap (λ (a : Result (Unit {0}) ℕ). played_from (stepped_as p e a) es) r ∙ from_refused p r es
 
 from_ends : (c : ℕ) (d : Day) (es : List Event) → c + length es < 2 ^ 64 → Ends c d es (played_from (sofar c d) es)
 unfolding played_from
@@ -162,20 +164,20 @@ from_ends c d (e ∷ es) h = go (faulted d e) (λ l. from_ends (c + 1) (day_afte
       ends = w.ends;
     }
 
-    halts : (j : Refusal) → fault_on d e ≡ Err j → Ends c d (e ∷ es) (record { count = c; answer = Err j; day = d })
+    halts : (j : Refusal) → fault_on d e ≡ Err j → Ends c d (e ∷ es) (record { count = c; answer = Err (number j); day = d })
     halts j f = record {
       front = [];
       rest = e ∷ es;
       splits = refl;
       plays = done;
       counts = omega arith;
-      ends = inr (record { event = e; later = es; first = refl; refused = f; some = (j, refl) });
+      ends = inr (record { event = e; later = es; first = refl; refusal = j; refused = f; some = refl });
     }
 
     go : (fault_on d e ≡ Ok tt) ⊎ ((j : Refusal) × (fault_on d e ≡ Err j)) → (c + 1 + length es < 2 ^ 64 → Ends (c + 1) (day_after d e) es (played_from (sofar (c + 1) (day_after d e)) es))
         → Ends c d (e ∷ es) (played_from (stepped (sofar c d) e) es)
     go (inl f) rest = rw (step_allowed c d e (length es) h f) (more f (rest (omega arith)))
-    go (inr (j, f)) rest = rw (step_refused c d e f, from_refused (record { count = c; answer = Err j; day = d }) refl es) (halts j f)
+    go (inr (j, f)) rest = rw (step_refused c d e f, from_refused (record { count = c; answer = Err (number j); day = d }) refl es) (halts j f)
 
 -- ---- the play of a list
 
@@ -211,7 +213,7 @@ module _ (d : Day) (es : List Event) (h : length es < 2 ^ 64) where
       go (inl (n, _)) =
           let s : es ≡ w.front = w.splits ∙ ap (λ (l : List Event). w.front ++ l) n ∙ append-nil w.front in
           w.counts ∙ omega (arith, ap length s)
-      go (inr r) = let w = r.some.1 in cc
+      go (inr r) = let w = r.some in cc
 
   pub count_within : (played d es).count ≤ length es
   count_within = omega (arith, w.counts, ap length w.splits, length-append w.front w.rest)
@@ -240,7 +242,7 @@ module _ (d : Day) (es : List Event) (h : length es < 2 ^ 64) where
   counted_day_is = ap (λ (p : Played). p.day) counted_played
 
   -- with a refusal, the event behind those counted is refused by it on the day that is left
-  pub refused_next : {j : Refusal} → (played d es).answer ≡ Err j → Refuses (played d es) (drop (played d es).count es)
+  pub refused_next : {k : ℕ} → (played d es).answer ≡ Err k → Refuses (played d es) (drop (played d es).count es)
   refused_next z = subst (Refuses (played d es)) (sym rest_is) (go w.ends)
     where
       go : ((w.rest ≡ []) × ((played d es).answer ≡ Ok tt)) ⊎ Refuses (played d es) w.rest → Refuses (played d es) w.rest

@@ -1,5 +1,6 @@
 -- What a play of a list of events gives, and what is true of the records of a day that is over, said of what happened in its events alone. Assumes nothing.
 use Rattle.refusals.specs.declared.Refusal.{Refusal}
+use Rattle.refusals.specs.Numbers.{number}
 use Rattle.std.specs.Prelude.{◌≡◌, true, Ok, Err, ◌⊎◌, ◌↔◌, List, [], ◌∷◌, ◌++◌, ℕ, length, take}
 use Rattle.histories.specs.declared.Kind.{Kind}
 use Rattle.calls.specs.declared.Recovery.{Recovery}
@@ -28,7 +29,7 @@ pub record AsPlayed (k : Kind) (n : ℕ) (es : List Event) (p : Played) : Type 0
   pub splits : es ≡ front ++ rest
   pub counts : p.count ≡ length front
   pub allowed : AllAllowed n front
-  pub ends : ((rest ≡ []) × (p.answer ≡ Ok tt)) ⊎ ((j : Refusal) × (p.answer ≡ Err j) × Refuses n front rest j)
+  pub ends : ((rest ≡ []) × (p.answer ≡ Ok tt)) ⊎ ((j : Refusal) × (p.answer ≡ Err (number j)) × Refuses n front rest j)
   pub stopped : (x : ℕ) → ((execution_of p.day).stopped x ≡ true) ↔ Stopped front x
   pub heard : (x q : ℕ) → ((execution_of p.day).row x q ≡ true) ↔ Heard k n front x q
 

@@ -2,6 +2,7 @@
 -- cite. Assumes nothing.
 use Rattle.refusals.specs.declared.Refusal.{Refusal}
 use Rattle.refusals.specs.declared.Refusal.TheVariants as R
+use Rattle.refusals.specs.Numbers.{number}
 use Rattle.std.specs.Prelude.{cond, Result, Ok, Err, List, [], ◌∷◌, ◌++◌, ℕ, ◌+◌, ◌-◌, ◌^◌, length, take, replicate, eqb, ltb}
 use Rattle.sets.specs.Sets.{nothing, below, intersection, with}
 use Rattle.sets.specs.PlaceSets.{has, packed}
@@ -84,15 +85,15 @@ one_more n = cond (ltb n (2 ^ 64 - 1)) (n + 1) n
 
 unfoldable pub counted_as : ℕ → Day → Result (Unit {0}) Refusal → Played
 counted_as n d (Ok u) = record { count = one_more n; answer = Ok u; day = d }
-counted_as n d (Err j) = record { count = n; answer = Err j; day = d }
+counted_as n d (Err j) = record { count = n; answer = Err (number j); day = d }
 
 unfoldable pub counted : ℕ → Happened → Played
 counted n h = counted_as n h.day h.answer
 
 -- one event after those played: after a refusal nothing more is played
-unfoldable pub stepped_as : Played → Event → Result (Unit {0}) Refusal → Played
+unfoldable pub stepped_as : Played → Event → Result (Unit {0}) ℕ → Played
 stepped_as p e (Ok u) = counted p.count (happened p.day e)
-stepped_as p e (Err j) = p
+stepped_as p e (Err k) = p
 
 unfoldable pub stepped : Played → Event → Played
 stepped p e = stepped_as p e p.answer

@@ -40,10 +40,11 @@ pub struct Happened {
     pub day: Day,
 }
 
-// What a list of events gives: how many were played, whether all were or the refusal that ended the play, and the day after those played.
+// What a list of events gives: how many were played, whether all were or the number of the refusal that ended the play, and the day after those played.
 #[derive(Clone, Copy)]
 pub struct Played {
     pub count: usize,
-    pub answer: Result<(), Refusal>,
+    // A number and no `Refusal`: what a caller filled in is given back, whatever number it is.
+    pub answer: Result<(), u8>,
     pub day: Day,
 }

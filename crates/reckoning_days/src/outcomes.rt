@@ -16,6 +16,8 @@ pub const NOT_LAST: u64 = 1000005;
 
 pub const OPEN: u64 = 1000006;
 
+pub const REFUSED_BY_0: u64 = 1000007;
+
 // An outcome in words, or as the number that it is.
 pub fn write(to: Stdout, x: u64) -> io::Result<()> {
     match x {
@@ -66,6 +68,15 @@ pub fn happening(got: Result<(), Refusal>) -> u64 {
     match got {
         Ok(()) => 0,
         Err(fault) => fault as u64,
+    }
+}
+
+// How a play ended: 0 where all were played. No refusal has the number 0, so one that came would be told from it.
+pub fn playing(got: Result<(), u8>) -> u64 {
+    match got {
+        Ok(()) => 0,
+        Err(0) => REFUSED_BY_0,
+        Err(number) => number as u64,
     }
 }
 

@@ -48,7 +48,7 @@ fn step(c: Case, g: Pair, i: usize) -> Pair {
         b"refusal at event",
         i,
         plain.refusal as u64,
-        outcomes::happening(played.answer),
+        outcomes::playing(played.answer),
     );
     let tally = event_lists::held(t, c, b"count at event", i, plain.count, played.count as u64);
     Pair {
@@ -87,7 +87,7 @@ fn happen(c: Case, g: Pair, i: usize) -> Pair {
     );
     let played = Played {
         count: 0,
-        answer,
+        answer: answer.map_err(|refusal| refusal as u8),
         day,
     };
     Pair {

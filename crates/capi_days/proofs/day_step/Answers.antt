@@ -9,4 +9,4 @@ returns-then-p-ne0 c = step_refused _ _ c.if-p-ne0.true
 pub returns : goal.returns
 unfolding event_of
 returns c =
-    step_on _ _ _ _ _ _ _ c.if-p-ne0.false c.day_of-day.ensures c.kind_byte-kind.ensures c.step-played.ensures c.day_now-day.ensures c.done_code.ensures
+    step_on _ _ _ _ _ _ _ c.if-p-ne0.false c.day_of-day.ensures c.kind_byte-kind.ensures c.step-played.ensures c.day_now-day.ensures c.play_code.ensures
