@@ -1,7 +1,5 @@
 -- What the libraries for C have in common: sets of places as words, tests as numbers, and where a written record ends. Assumes nothing.
-use Rattle.refusals.specs.declared.Refusal.{Refusal}
 use Rattle.std.specs.Prelude.{Result, Ok, Err}
-use Rattle.refusals.specs.Numbers.{number}
 use Rattle.std.specs.Prelude.{Bool, cond, List, [], ◌∷◌, ℕ, ◌+◌, get_or}
 use Rattle.sets.specs.declared.PlaceSet.{PlaceSet}
 use Rattle.boundary.specs.declared.End.{End}
@@ -18,6 +16,6 @@ unfoldable pub yes_code : Bool → ℕ
 yes_code b = cond b 1 0
 
 -- the refusal, or 0 and where the record ends
-unfoldable pub end_of : Result ℕ Refusal → End
+unfoldable pub end_of : Result ℕ ℕ → End
 end_of (Ok e) = record { refusal = 0; next = e }
-end_of (Err j) = record { refusal = number j; next = 0 }
+end_of (Err j) = record { refusal = j; next = 0 }

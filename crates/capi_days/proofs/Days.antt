@@ -15,6 +15,7 @@ use Rattle.executions.specs.declared.Happened.{Happened}
 use Rattle.executions.specs.Promises.{happened, written_of}
 use Rattle.boundary.specs.declared.DayHead.{DayHead}
 use Rattle.boundary.specs.declared.End.{End}
+use Rattle.refusals.specs.Numbers.{numbered}
 use Rattle.boundary.specs.Words.{set_at, end_of}
 use Rattle.boundary.specs.Days.{kind_in, stopped_in, day_in, with_stopped, done_code, happened_held}
 use Rattle.boundary.proofs.Words.{Ends, ends}
@@ -56,6 +57,6 @@ event_is head serials rows e d x after c f g h k =
     let is : x ≡ happened (day_in head serials rows) e = g ∙ ap (λ (d : Day). happened d e) f in
     (k ∙ ap (λ (x : Happened). done_code x.answer) is, (h ∙ ap (λ (x : Happened). with_stopped head x.day.stopped) is, ap (λ (x : Happened). x.day.rows) is))
 
-pub write_is : (head serials rows : List ℕ) (p : ℕ) (out : List ℕ) (at : ℕ) (d : Day) (a : Result ℕ Refusal) (e : End) (after : List ℕ) → d ≡ day_in head serials rows → e ≡ end_of a
+pub write_is : (head serials rows : List ℕ) (p : ℕ) (out : List ℕ) (at : ℕ) (d : Day) (a : Result ℕ Refusal) (e : End) (after : List ℕ) → d ≡ day_in head serials rows → e ≡ end_of (numbered a)
     → (a ≡ (written_of d p out at).answer) × (after ≡ (written_of d p out at).buffer) → Ends (written_of (day_in head serials rows) p out at) e after
 write_is head serials rows p out at d a e after f g h = rw (← f) (ends (written_of d p out at) a e after g h)

@@ -3,6 +3,7 @@
 #![tactic(auto)]
 
 ghost use Rattle.std.specs.Prelude.{◌≡◌, cond, [], ◌∷◌, get_or, ltb};
+ghost use Rattle.refusals.specs.Numbers.{numbered};
 ghost use Rattle.executions.specs.Promises as days;
 ghost use Rattle.boundary.specs.Words.{end_of};
 ghost use Rattle.boundary.specs.Days.{kind_in, stopped_in, day_in, event_of, day_head_of, with_stopped, done_code, begun_held, happened_held, day_of, day_now, play_code, played_now, stepped_now};
@@ -153,12 +154,12 @@ pub extern "C" fn gm_day_write(
     out: &mut [u8],
     at: usize,
 ) -> End
-    ensures value { result ≡ end_of (days.written_of (day_in head.now serials.now rows.now) place out.old at).answer }
+    ensures value { result ≡ end_of (numbered (days.written_of (day_in head.now serials.now rows.now) place out.old at).answer) }
     ensures out_after { out.new ≡ (days.written_of (day_in head.now serials.now rows.now) place out.old at).buffer }
 {
     let day = day_in(head, serials, rows);
     let answer = day_records::write(day, Place(place), out, at);
-    words::end_of(answer)
+    words::end_of(answer.map_err(|refusal| refusal as u8))
 }
 
 // A kind that no byte holds is as unknown as 0.

@@ -3,6 +3,7 @@
 #![tactic(auto)]
 
 ghost use Rattle.std.specs.Prelude.{◌≡◌, List, ℕ, length};
+ghost use Rattle.refusals.specs.Numbers.{numbered};
 ghost use Rattle.calls.specs.Promises.{shown, checked, written_of};
 ghost use Rattle.boundary.specs.Words.{end_of};
 ghost use Rattle.boundary.specs.Recoveries.{recovery_in, showing_code, checked_code};
@@ -115,9 +116,9 @@ pub extern "C" fn gm_write(
     out: &mut [u8],
     at: usize,
 ) -> End
-    ensures by_index { (seconds : List ℕ) → result ≡ end_of (written_of (recovery_in head.now serials.now seconds rows.now) place out.old at).answer }
+    ensures by_index { (seconds : List ℕ) → result ≡ end_of (numbered (written_of (recovery_in head.now serials.now seconds rows.now) place out.old at).answer) }
     ensures by_index_2 { (seconds : List ℕ) → out.new ≡ (written_of (recovery_in head.now serials.now seconds rows.now) place out.old at).buffer }
 {
     let answer = write_back(head, serials, rows, Place(place), out, at);
-    words::end_of(answer)
+    words::end_of(answer.map_err(|refusal| refusal as u8))
 }

@@ -3,6 +3,7 @@
 #![tactic(auto)]
 
 ghost use Rattle.std.specs.Prelude.{◌≡◌, []};
+ghost use Rattle.refusals.specs.Numbers.{numbered};
 ghost use Rattle.sets.specs.PlaceSets.{has};
 ghost use Rattle.serials.specs.Seconds.{counts_as};
 ghost use Rattle.layouts.specs.Records.{reading, reading_lone, roster_is, copiable, copied};
@@ -130,7 +131,7 @@ pub extern "C" fn gm_write_record(
     out: &mut [u8],
     at: usize,
 ) -> End
-    ensures value { result ≡ end_of (written_parts kind own roster.now (has (set_at mourned.now 0)) out.old at).answer }
+    ensures value { result ≡ end_of (numbered (written_parts kind own roster.now (has (set_at mourned.now 0)) out.old at).answer) }
     ensures out_after { out.new ≡ (written_parts kind own roster.now (has (set_at mourned.now 0)) out.old at).buffer }
 {
     let set = PlaceSet {
@@ -138,8 +139,14 @@ pub extern "C" fn gm_write_record(
         high: mourned[1],
     };
     match kind {
-        1 => words::end_of(writes::write(Kind::Full, Place(own), roster, set, out, at)),
-        2 => words::end_of(writes::write(Kind::Short, Place(own), roster, set, out, at)),
+        1 => {
+            let answer = writes::write(Kind::Full, Place(own), roster, set, out, at);
+            words::end_of(answer.map_err(|refusal| refusal as u8))
+        }
+        2 => {
+            let answer = writes::write(Kind::Short, Place(own), roster, set, out, at);
+            words::end_of(answer.map_err(|refusal| refusal as u8))
+        }
         0 | 3..=255 => End {
             refusal: 2,
             next: 0,

@@ -3,7 +3,6 @@
 #![tactic(auto)]
 
 ghost use Rattle.std.specs.Prelude.{◌≡◌, ◌++◌, ◌+◌, ◌≤◌, length};
-ghost use Rattle.refusals.specs.Numbers as numbers;
 ghost use Rattle.layouts.specs.Records.{written_at};
 ghost use Rattle.layouts.specs.Fronts.{front};
 ghost use Rattle.transcripts.specs.Lines.{ascii, decimal, line, record_line, place_line, whole_line, none_line};
@@ -12,12 +11,12 @@ use answers::{Answer, Reply};
 use refusals::Refusal;
 use serials::Serial;
 
-// The line of the record with this number, from 1.
+// The line of the record with this number, from 1. A refusal is said by its number.
 pub fn put_record(
     out: &mut [u8],
     at: usize,
     number: u64,
-    answer: Result<Reply, Refusal>,
+    answer: Result<Reply, u8>,
 ) -> Result<usize, Refusal>
     ensures value { result ≡ (written_at (record_line number answer) out.old at).answer }
     ensures out_after { out.new ≡ (written_at (record_line number answer) out.old at).buffer }
@@ -29,12 +28,12 @@ pub fn put_record(
     }
 }
 
-// The line of a place: its serial, and its answer.
+// The line of a place: its serial, and its answer, a refusal by its number.
 pub fn put_place(
     out: &mut [u8],
     at: usize,
     serial: Serial,
-    answer: Result<Answer, Refusal>,
+    answer: Result<Answer, u8>,
 ) -> Result<usize, Refusal>
     ensures value { result ≡ (written_at (place_line serial.0 answer) out.old at).answer }
     ensures out_after { out.new ≡ (written_at (place_line serial.0 answer) out.old at).buffer }
@@ -143,11 +142,11 @@ fn put_refused(
     at: usize,
     head: &[u8],
     number: u64,
-    refusal: Refusal,
+    refusal: u8,
 ) -> Result<usize, Refusal>
     requires { length head.now ≤ 7 }
-    ensures value { result ≡ (written_at (line (head.now ++ (decimal number ++ (ascii " refused " ++ decimal (numbers.number refusal))))) out.old at).answer }
-    ensures out_after { out.new ≡ (written_at (line (head.now ++ (decimal number ++ (ascii " refused " ++ decimal (numbers.number refusal))))) out.old at).buffer }
+    ensures value { result ≡ (written_at (line (head.now ++ (decimal number ++ (ascii " refused " ++ decimal refusal)))) out.old at).answer }
+    ensures out_after { out.new ≡ (written_at (line (head.now ++ (decimal number ++ (ascii " refused " ++ decimal refusal)))) out.old at).buffer }
 {
     // a byte has at most three digits, which go where the zeros stand
     let mut tail = *b" refused 000";

@@ -1,6 +1,6 @@
 -- A line is laid whole where there is room. Assumes nothing.
 use Rattle.refusals.specs.declared.Refusal.{Refusal}
-use Rattle.std.specs.Prelude.{Option, Some, None, Result, Ok, Err}
+use Rattle.std.specs.Prelude.{Result, Ok, Err}
 use mathlib.Core.Path.{◌≡◌, refl, ap, ◌∙◌, subst}
 use mathlib.Core.Logic.{◌⊎◌}
 use mathlib.Core.List.{List}
@@ -8,7 +8,7 @@ use Prim.Native.Nat.{ℕ, ◌+◌, ◌<◌, ◌≤◌}
 use native.Mathlib.Omega.{arith}
 use lib.ListN.{length, get_or, length-append}
 use borrow.Author.Tests.{le-leb, ne_eqb}
-use Rattle.refusals.specs.Numbers.{number}
+use Rattle.refusals.specs.Numbers.{numbered}
 use Rattle.layouts.specs.Records.{written_at}
 use Rattle.answers.specs.declared.Answer as declared
 use Rattle.answers.specs.declared.Answer.TheVariants as A
@@ -23,24 +23,24 @@ use Rattle.transcripts.proofs.Laws.{length_decimal, length_line}
 use Rattle.recover.specs.Gathered.{answer_in, end_of, Said}
 
 -- 64 bytes hold a line, whatever its numbers are
-words_short : (o : Result Reply Refusal) → length (offer_words o) ≤ 28
+words_short : (o : Result Reply ℕ) → length (offer_words o) ≤ 28
 unfolding offer_words ascii
 words_short (Ok O.Taken) = omega arith
 words_short (Ok O.Repeated) = omega arith
-words_short (Err j) = omega (arith, length_decimal (number j))
+words_short (Err j) = omega (arith, length_decimal j)
 
-pub record_short : (n : ℕ) (o : Result Reply Refusal) → length (record_line n o) ≤ 64
+pub record_short : (n : ℕ) (o : Result Reply ℕ) → length (record_line n o) ≤ 64
 unfolding record_line ascii
 record_short n o = simp (length_line, length-append) (omega (arith, length_decimal n, words_short o))
 
-answer_short : (a : Result declared.Answer Refusal) → length (answer_words a) ≤ 28
+answer_short : (a : Result declared.Answer ℕ) → length (answer_words a) ≤ 28
 unfolding answer_words ascii
 answer_short (Ok A.Last) = omega arith
 answer_short (Ok A.NotLast) = omega arith
 answer_short (Ok A.Open) = omega arith
-answer_short (Err j) = omega (arith, length_decimal (number j))
+answer_short (Err j) = omega (arith, length_decimal j)
 
-pub place_short : (n : ℕ) (a : Result declared.Answer Refusal) → length (place_line n a) ≤ 64
+pub place_short : (n : ℕ) (a : Result declared.Answer ℕ) → length (place_line n a) ≤ 64
 unfolding place_line ascii
 place_short n a = simp (length_line, length-append) (omega (arith, length_decimal n, answer_short a))
 
@@ -78,8 +78,8 @@ listed_says last_byte = refl
 listed_says open_byte = refl
 
 -- so its line is the one that asking gives
-pub line_says : (serial : ℕ) (b : ℕ) {used end : ℕ} {old new : List ℕ} {x a : Result declared.Answer Refusal} → x ≡ answer_in b → AskedByte a b → Said (place_line serial x) used old new end → Said (place_line serial a) used old new end
-line_says serial b {used} {end} {old} {new} e h s = subst (λ (y : Result declared.Answer Refusal). Said (place_line serial y) used old new end) (e ∙ listed_says h) s
+pub line_says : (serial : ℕ) (b : ℕ) {used end : ℕ} {old new : List ℕ} {x a : Result declared.Answer Refusal} → x ≡ answer_in b → AskedByte a b → Said (place_line serial (numbered x)) used old new end → Said (place_line serial (numbered a)) used old new end
+line_says serial b {used} {end} {old} {new} e h s = subst (λ (y : Result declared.Answer Refusal). Said (place_line serial (numbered y)) used old new end) (e ∙ listed_says h) s
 
 -- in a list of all places, each byte is that of its place
 pub each_says : (r : Recovery) (out listed : List ℕ) → length out ≡ 128 → listed ≡ (listed_of r out).buffer → (p : ℕ) → p < size_of r → AskedByte (asked r p) (get_or listed p 0)

@@ -1,6 +1,7 @@
 // What a recovery says when the reading is over.
 ghost use Rattle.std.specs.Prelude.{◌≡◌, ◌≤◌, ◌<◌, length, get_or, Result, IfOk, OnErr};
 ghost use Rattle.calls.specs.Promises.{AskedByte};
+ghost use Rattle.refusals.specs.Numbers.{numbered};
 ghost use Rattle.refusals.specs.declared.Refusal as refused;
 ghost use Rattle.answers.specs.declared.Answer as declared;
 ghost use Rattle.transcripts.specs.Lines.{place_line};
@@ -38,7 +39,7 @@ fn list_place(
     requires used_in_bounds { used ≤ length out.old }
     requires in_bounds { 64 ≤ length out.old }
     requires p_bound { p < 128 }
-    ensures ok { IfOk result (λ end. (a : Result declared.Answer refused.Refusal) → AskedByte a (get_or listed.now p 0) → Said (place_line (get_or serials.now p 0) a) used out.old out.new end) }
+    ensures ok { IfOk result (λ end. (a : Result declared.Answer refused.Refusal) → AskedByte a (get_or listed.now p 0) → Said (place_line (get_or serials.now p 0) (numbered a)) used out.old out.new end) }
     ensures err { OnErr result (out.new ≡ out.old) }
 {
     let serial = Serial(serials[p]);

@@ -92,12 +92,11 @@ pub(crate) fn offer_all(
             recovery.count,
             &order,
         );
-        let x = match got {
-            Ok(x) => x,
-            Err(refusal) => {
+        let Ok(x) = got else {
+            if let Err(refusal) = got {
                 used = output::say_record(to, out, used, number, Err(refusal))?;
-                break;
             }
+            break;
         };
         // one that cannot be read ends the reading, so the first that can is record 1
         if number == 1 {

@@ -1,5 +1,6 @@
 // The output, gathered in a lent buffer whose first `used` bytes are still to be written out.
 ghost use Rattle.std.specs.Prelude.{◌≡◌, ◌⊎◌, ◌+◌, ◌≤◌, length, IfOk, OnErr};
+ghost use Rattle.refusals.specs.Numbers.{numbered};
 ghost use Rattle.transcripts.specs.Lines.{record_line, place_line, whole_line, none_line};
 ghost use Rattle.recover.specs.Gathered.{end_of, Said};
 
@@ -48,11 +49,12 @@ pub(crate) fn say_record(
 ) -> io::Result<usize>
     requires used_in_bounds { used ≤ length out.old }
     requires in_bounds { 64 ≤ length out.old }
-    ensures ok { IfOk result (λ end. Said (record_line number answer) used out.old out.new end) }
+    ensures ok { IfOk result (λ end. Said (record_line number (numbered answer)) used out.old out.new end) }
     ensures err { OnErr result (out.new ≡ out.old) }
 {
     let at = room(to, out, used)?;
-    Ok(end_of(lines::put_record(out, at, number, answer)))
+    let said = answer.map_err(|refusal| refusal as u8);
+    Ok(end_of(lines::put_record(out, at, number, said)))
 }
 
 pub(crate) fn say_place(
@@ -64,11 +66,12 @@ pub(crate) fn say_place(
 ) -> io::Result<usize>
     requires used_in_bounds { used ≤ length out.old }
     requires in_bounds { 64 ≤ length out.old }
-    ensures ok { IfOk result (λ end. Said (place_line serial.0 answer) used out.old out.new end) }
+    ensures ok { IfOk result (λ end. Said (place_line serial.0 (numbered answer)) used out.old out.new end) }
     ensures err { OnErr result (out.new ≡ out.old) }
 {
     let at = room(to, out, used)?;
-    Ok(end_of(lines::put_place(out, at, serial, answer)))
+    let said = answer.map_err(|refusal| refusal as u8);
+    Ok(end_of(lines::put_place(out, at, serial, said)))
 }
 
 pub(crate) fn say_whole(to: Stdout, out: &mut [u8], used: usize, settled: bool) -> io::Result<usize>

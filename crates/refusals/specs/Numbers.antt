@@ -1,5 +1,5 @@
 -- Documents 01's and 02's number of each refusal. Assumes nothing.
-use Rattle.std.specs.Prelude.{ℕ}
+use Rattle.std.specs.Prelude.{ℕ, Result, Ok, Err}
 use Rattle.refusals.specs.declared.Refusal.{Refusal}
 use Rattle.refusals.specs.declared.Refusal.TheVariants as R
 
@@ -21,3 +21,8 @@ number R.NotAllowed = 14
 number R.BitOffRoster = 15
 number R.KnownSerial = 16
 number R.TooMany = 17
+
+-- an answer with its refusal's number in the refusal's place
+abbrev pub numbered : {A : Type 0} → Result A Refusal → Result A ℕ
+numbered (Ok x) = Ok x
+numbered (Err j) = Err (number j)

@@ -1,10 +1,8 @@
 -- Laws of bytes laid into a front, of where a line is put, of a number's digits, and of how long a line is. Assumes nothing.
-use Rattle.refusals.specs.Numbers.{number}
-use Rattle.refusals.specs.declared.Refusal.{Refusal}
 use Rattle.refusals.specs.declared.Refusal.TheVariants as R
 use Rattle.answers.specs.declared.Answer.TheVariants as A
 use Rattle.answers.specs.declared.Answer as declared
-use Rattle.std.specs.Prelude.{Option, Some, None, Result, Ok, Err}
+use Rattle.std.specs.Prelude.{Result, Ok, Err}
 use mathlib.Core.Path.{◌≡◌, refl, sym, ap, ◌∙◌}
 use mathlib.Core.Bool.{Bool, true, false}
 use mathlib.Core.List.{List, [], ◌∷◌, ◌++◌, append_assoc, append-nil}
@@ -187,21 +185,21 @@ laying_all whole out left so_far = sym (so_far.1 ∙ rw (digits_none left))
 -- ---- how long a line is
 
 -- the refusal that an answer holds
-unfoldable pub refusal_of : Result Reply Refusal → ℕ
+unfoldable pub refusal_of : Result Reply ℕ → ℕ
 refusal_of (Ok O.Taken) = 0
 refusal_of (Ok O.Repeated) = 0
-refusal_of (Err j) = number j
+refusal_of (Err j) = j
 
-unfoldable pub refusal_in : Result declared.Answer Refusal → ℕ
+unfoldable pub refusal_in : Result declared.Answer ℕ → ℕ
 refusal_in (Ok A.Last) = 0
 refusal_in (Ok A.NotLast) = 0
 refusal_in (Ok A.Open) = 0
-refusal_in (Err j) = number j
+refusal_in (Err j) = j
 
 -- the program's lines, where each refusal is a byte
 pub data IsLine : List ℕ → Type 0 where
-  record_line_lem : (n : ℕ) (o : Result Reply Refusal) → refusal_of o < 256 → IsLine (record_line n o)
-  place_line_lem : (n : ℕ) (a : Result declared.Answer Refusal) → refusal_in a < 256 → IsLine (place_line n a)
+  record_line_lem : (n : ℕ) (o : Result Reply ℕ) → refusal_of o < 256 → IsLine (record_line n o)
+  place_line_lem : (n : ℕ) (a : Result declared.Answer ℕ) → refusal_in a < 256 → IsLine (place_line n a)
   whole_line_lem : (settled : Bool) → IsLine (whole_line settled)
   none_line_lem : IsLine none_line
 
@@ -209,18 +207,18 @@ pub length_decimal : (n : ℕ) → length (decimal n) ≤ 20
 unfolding decimal
 length_decimal n = digits_most 20 n
 
-length_offer : (o : Result Reply Refusal) → refusal_of o < 256 → length (offer_words o) ≤ 11
+length_offer : (o : Result Reply ℕ) → refusal_of o < 256 → length (offer_words o) ≤ 11
 unfolding offer_words refusal_of ascii
 length_offer (Ok O.Taken) h = omega arith
 length_offer (Ok O.Repeated) h = omega arith
-length_offer (Err j) h = omega (arith, decimal_byte (number j) h)
+length_offer (Err j) h = omega (arith, decimal_byte j h)
 
-length_answer : (a : Result declared.Answer Refusal) → refusal_in a < 256 → length (answer_words a) ≤ 11
+length_answer : (a : Result declared.Answer ℕ) → refusal_in a < 256 → length (answer_words a) ≤ 11
 unfolding answer_words refusal_in ascii
 length_answer (Ok A.Last) h = omega arith
 length_answer (Ok A.NotLast) h = omega arith
 length_answer (Ok A.Open) h = omega arith
-length_answer (Err j) h = omega (arith, decimal_byte (number j) h)
+length_answer (Err j) h = omega (arith, decimal_byte j h)
 
 -- every line is at most 40 bytes
 pub line_length : {s : List ℕ} → IsLine s → length s ≤ 40

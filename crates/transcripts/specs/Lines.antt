@@ -1,9 +1,7 @@
 -- The lines that the program writes, as bytes: document 01, 'The program'. Assumes nothing.
-use Rattle.refusals.specs.Numbers.{number}
-use Rattle.refusals.specs.declared.Refusal.{Refusal}
 use Rattle.answers.specs.declared.Answer.TheVariants as A
 use Rattle.answers.specs.declared.Answer as declared
-use Rattle.std.specs.Prelude.{Option, Some, None, Result, Ok, Err}
+use Rattle.std.specs.Prelude.{Result, Ok, Err}
 use Rattle.std.specs.Prelude.{Bool, true, false, cond, List, [], ◌∷◌, ◌++◌, ℕ, zero, suc, ◌+◌, ◌/◌, ◌%◌, ltb}
 use Prim.Native.String as S
 use Prim.Native.Char.{code}
@@ -28,22 +26,22 @@ decimal n = digits 20 n
 unfoldable pub line : List ℕ → List ℕ
 line s = s ++ (10 ∷ [])
 
-unfoldable pub offer_words : Result Reply Refusal → List ℕ
+unfoldable pub offer_words : Result Reply ℕ → List ℕ
 offer_words (Ok O.Taken) = ascii "taken"
 offer_words (Ok O.Repeated) = ascii "repeated"
-offer_words (Err j) = ascii "refused " ++ decimal (number j)
+offer_words (Err j) = ascii "refused " ++ decimal j
 
-unfoldable pub record_line : ℕ → Result Reply Refusal → List ℕ
+unfoldable pub record_line : ℕ → Result Reply ℕ → List ℕ
 record_line n o = line (ascii "record " ++ (decimal n ++ (ascii " " ++ offer_words o)))
 
 -- a place off the roster has no line in the program; its refusal is said all the same
-unfoldable pub answer_words : Result declared.Answer Refusal → List ℕ
+unfoldable pub answer_words : Result declared.Answer ℕ → List ℕ
 answer_words (Ok A.Last) = ascii "last"
 answer_words (Ok A.NotLast) = ascii "not"
 answer_words (Ok A.Open) = ascii "open"
-answer_words (Err j) = ascii "refused " ++ decimal (number j)
+answer_words (Err j) = ascii "refused " ++ decimal j
 
-unfoldable pub place_line : ℕ → Result declared.Answer Refusal → List ℕ
+unfoldable pub place_line : ℕ → Result declared.Answer ℕ → List ℕ
 place_line serial a = line (decimal serial ++ (ascii " " ++ answer_words a))
 
 unfoldable pub whole_line : Bool → List ℕ

@@ -8,7 +8,6 @@ ghost use Rattle.boundary.specs.Recoveries.{head_words};
 
 use boundary::{End, Head};
 use histories::Kind;
-use refusals::Refusal;
 use sets::PlaceSet;
 
 // A kind as a word: 1 full, 2 short.
@@ -26,7 +25,7 @@ pub fn yes_code(b: bool) -> u8
 }
 
 // The refusal and 0, or 0 and where the record ends.
-pub fn end_of(answer: Result<usize, Refusal>) -> End
+pub fn end_of(answer: Result<usize, u8>) -> End
     ensures { result ≡ end_of answer }
 {
     match answer {

@@ -1,19 +1,26 @@
 -- `capi_records::gm_write_record` meets its contract. Assumes nothing.
-use mathlib.Core.Path.{◌≡◌}
+use mathlib.Core.Path.{◌≡◌, ap, ◌∙◌}
 use native.Mathlib.Omega.{arith}
 use borrow.Author.Rules.{rules}
 use Rattle.sets.specs.PlaceSets.{has}
-use Rattle.boundary.specs.Words.{set_at}
+use Rattle.refusals.proofs.Numbers.{as_numbered, numbered_is}
+use Rattle.boundary.specs.Words.{set_at, end_of}
 use Rattle.capi_records.proofs.Writes.{lays_full, lays_short, lays_none}
 use Rattle.capi_records.proofs.gm_write_record.Goals as goal
 
 pub returns-in-1 : goal.returns-in-1
 unfolding set_at
-returns-in-1 c = record { value = (lays_full _ _ _ _ _ _ _ _ _ c.end_of.ensures (omega arith) (c.write.ensures.value, c.write.ensures.out_after)).0; out_after = (lays_full _ _ _ _ _ _ _ _ _ c.end_of.ensures (omega arith) (c.write.ensures.value, c.write.ensures.out_after)).1 }
+returns-in-1 c =
+    let n = numbered_is c.write-answer.result c.map_err.result c.map_err.ensures.cases (λ j k h. search (rules, as_numbered)) in
+    let w = lays_full _ _ _ _ _ _ _ _ _ (c.end_of.ensures ∙ ap end_of n) (omega arith) (c.write-answer.ensures.value, c.write-answer.ensures.out_after) in
+    record { value = w.0; out_after = w.1 }
 
 pub returns-in-2 : goal.returns-in-2
 unfolding set_at
-returns-in-2 c = record { value = (lays_short _ _ _ _ _ _ _ _ _ c.end_of-in-2.ensures (omega arith) (c.write-in-2.ensures.value, c.write-in-2.ensures.out_after)).0; out_after = (lays_short _ _ _ _ _ _ _ _ _ c.end_of-in-2.ensures (omega arith) (c.write-in-2.ensures.value, c.write-in-2.ensures.out_after)).1 }
+returns-in-2 c =
+    let n = numbered_is c.write-answer-in-2.result c.map_err-in-2.result c.map_err-in-2.ensures.cases (λ j k h. search (rules, as_numbered)) in
+    let w = lays_short _ _ _ _ _ _ _ _ _ (c.end_of-in-2.ensures ∙ ap end_of n) (omega arith) (c.write-answer-in-2.ensures.value, c.write-answer-in-2.ensures.out_after) in
+    record { value = w.0; out_after = w.1 }
 
 pub returns-in-0 : goal.returns-in-0
 returns-in-0 c =

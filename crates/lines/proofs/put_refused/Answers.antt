@@ -6,8 +6,6 @@ use native.Mathlib.Omega.{arith}
 use lib.ListN.{length, take, length-take}
 use borrow.Rule.Slice.PartMut.{put_mid}
 use borrow.Author.Rules.{rules}
-use Rattle.refusals.specs.Numbers.{number}
-use Rattle.refusals.proofs.Numbers.{as_numbered}
 use Rattle.layouts.specs.Fronts.{front}
 use Rattle.transcripts.specs.Lines.{ascii, decimal}
 use Rattle.transcripts.proofs.Laws.{front_parted, decimal_byte}
@@ -42,8 +40,5 @@ slice_bounds-put_numbered-end c = sym (tail_length _ _ _ c.count_digits-count.en
 pub returns : goal.returns
 unfolding ascii
 returns c =
-    let j = number c.args.refusal in
-    let e = as_numbered c.args.refusal in
-    let n : c.count_digits-count.result ≡ length (decimal j) = c.count_digits-count.ensures.value ∙ ap (λ (k : ℕ). length (decimal k)) e in
-    let t = tail_is j _ _ n (c.lay_decimal.ensures ∙ ap (λ (k : ℕ). front (decimal k) (ascii "000")) e) in
+    let t = tail_is _ _ _ c.count_digits-count.ensures.value c.lay_decimal.ensures in
     record { value = rw t at c.put_numbered.ensures.value; out_after = rw t at c.put_numbered.ensures.out_after }

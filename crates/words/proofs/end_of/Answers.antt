@@ -1,8 +1,6 @@
 -- `words::end_of` meets its contract. Assumes nothing.
-use Rattle.std.specs.Prelude.{Option, Some, None, Result, Ok, Err}
 use mathlib.Core.Path.{sym, ap}
 use borrow.Author.Rules.{rules}
-use Rattle.refusals.proofs.Numbers.{as_numbered}
 use Rattle.boundary.specs.Words.{end_of}
 use Rattle.words.proofs.end_of.Goals as goal
 
@@ -12,4 +10,4 @@ returns-in-Ok c = sym (ap end_of c.in-Ok.is)
 
 pub returns-in-Err : goal.returns-in-Err
 unfolding end_of
-returns-in-Err c = rw (as_numbered c.in-Err.fault) (sym (ap end_of c.in-Err.is))
+returns-in-Err c = sym (ap end_of c.in-Err.is)

@@ -32,4 +32,4 @@ loop-number-preserved c =
     let l = c.loop-number.invariant in
     let i = c.in_ok-w.ensures.inside_2.1 in
     let e = ends_inside _ _ _ (sym c.read_next-got.ensures ∙ c.in-Ok.is) in
-    ((omega (arith, c.past-w.ensures.0, c.past-w.ensures.1, e, length-take-le c.in_ok-w.w.have c.ready.new.buf i), omega (arith, c.past-w.ensures.1, i)), search rules, subst (λ n. c.in_ok-used.used ≤ n) l.3 c.in_ok-used.ensures.ok.inside, search rules)
+    ((omega (arith, c.past-w.ensures.0, c.past-w.ensures.1, e, length-take-le c.in_ok-w.w.have c.ready.new.buf i), omega (arith, c.past-w.ensures.1, i)), search rules, subst (λ n. c.in_ok-used-2.used ≤ n) l.3 c.in_ok-used-2.ensures.ok.inside, search rules)
