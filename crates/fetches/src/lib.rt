@@ -25,6 +25,10 @@ fn blocking(
     let missing = standings::unheard(returned, earlier, count);
     let unasked = standings::unmourned(mourned, count);
     let mut known = places::empty();
+    // where nobody is missing, no member is looked for
+    if places::is_subset(missing, known) {
+        return known;
+    }
     for p in places::members(unasked) {
         if places::is_subset(missing, known) {
             return known;

@@ -1,7 +1,7 @@
 // Tables of rows, a row for each of 128 places.
 #![tactic(auto)]
 
-ghost use Rattle.std.specs.Prelude.{◌≡◌, cond, ◌&&◌, ◌*◌, leb, length};
+ghost use Rattle.std.specs.Prelude.{◌≡◌, cond, ◌&&◌, ◌++◌, ◌*◌, ◌≤◌, leb, length, drop};
 ghost use Rattle.rows.specs.Rows.{no_rows, row_at, rows_of, with_row, laid};
 
 use rows::Rows;
@@ -33,11 +33,21 @@ pub fn set(rows: &mut Rows, place: Place, s: PlaceSet)
     }
 }
 
+// Copies bytes into the front of a buffer. `copy_from_slice` calls memmove here, which the archives for C are not to need.
+fn copy(out: &mut [u8], bytes: &[u8])
+    requires { length bytes.now ≤ length out.old }
+    ensures { out.new ≡ bytes.now ++ drop (length bytes.now) out.old }
+{
+    for (i, byte) in bytes.iter().enumerate() {
+        out[i] = *byte;
+    }
+}
+
 // Lays a table's first n rows into the front of a buffer: where there are not so many, or they do not fit, nothing changes.
 pub fn lay(out: &mut [u8], rows: &Rows, n: usize)
     ensures { out.new ≡ cond (leb n 128 && leb (16 * n) (length out.old)) (laid n (rows_of rows.now) out.old) out.old }
 {
     if n <= 128 && 16 * n <= out.len() {
-        out[..16 * n].copy_from_slice(&rows[..16 * n]);
+        copy(out, &rows[..16 * n]);
     }
 }

@@ -9,8 +9,13 @@ loop-p-init c = gathered_none _ _ _ _ _ _ c.empty-known.ensures
 
 pub returns-then-is_subset : goal.returns-then-is_subset
 returns-then-is_subset c =
-    gathered_enough _ _ _ _ _ _ _ (cc) c.loop-p.invariant _ _ (size_at_most _) (back_in _ _ _ _) c.unheard-missing.ensures
+    gathered_enough _ _ _ _ _ _ _ (cc) (gathered_none _ _ _ _ c.unmourned-unasked.result _ c.empty-known.ensures) _ _ (size_at_most _) (back_in _ _ _ _) c.unheard-missing.ensures
     (sym c.is_subset.ensures ∙ c.if-is_subset.true)
+
+pub returns-then-is_subset-2 : goal.returns-then-is_subset-2
+returns-then-is_subset-2 c =
+    gathered_enough _ _ _ _ _ _ _ (cc) c.loop-p.invariant _ _ (size_at_most _) (back_in _ _ _ _) c.unheard-missing.ensures
+    (sym c.is_subset-in-loop-p.ensures ∙ c.if-is_subset-2.true)
 
 pub returns : goal.returns
 returns c = gathered_all _ _ _ _ _ _ _ (cc) c.loop-p.invariant (λ j _. c.in-None.ensures.steps.0 j)
