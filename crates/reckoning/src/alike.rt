@@ -40,20 +40,12 @@ fn same_heads(a: Recovery, b: Recovery) -> bool {
     same_set(one, two)
 }
 
-// Whether two arrays of a length hold the same. There is no early end, so that it runs on vectors: with `==` the program takes half as
-// long again.
-fn same_items<T: Copy + PartialEq>(a: &[T], b: &[T]) -> bool {
-    a.iter().zip(b).fold(true, |same, (x, y)| same & (*x == *y))
-}
-
 // Every field, the serials past the roster and the rows of absent places too.
 pub fn same(a: Recovery, b: Recovery) -> bool {
     if !same_heads(a, b) {
         return false;
     }
-    same_items(&a.serials, &b.serials)
-        && same_items(&a.seconds, &b.seconds)
-        && same_items(&a.rows, &b.rows)
+    a.serials == b.serials && a.seconds == b.seconds && a.rows == b.rows
 }
 
 // The recovery with a second serial for a place, and all else as it was.
